@@ -1,0 +1,18 @@
+-- Document 01's number and values for each case of the answers that the code gives. Every promise about an answer goes through these. Assumes nothing.
+use mathlib.Core.Bool.{Bool, true, false}
+use Rattle.trace.specs.declared.Answer.{Answer}
+use Rattle.trace.specs.declared.Answer.the-variants.{Clean, Race, Refused}
+use Rattle.trace.specs.declared.Ordering.{Ordering}
+use Rattle.trace.specs.Outcome.{Reply, says, refused, Verdict, clean, race}
+
+-- The judge: clean, race s t, or refused number position.
+unfoldable pub judgeReply : Answer → Reply Verdict
+judgeReply Clean = says clean
+judgeReply (Race s t) = says (race s t)
+judgeReply (Refused r) = refused (r .number) (r .position)
+
+-- The ordering call: yes, no, or refused number position.
+unfoldable pub orderingReply : Ordering → Reply Bool
+orderingReply Ordering.Yes = says true
+orderingReply Ordering.No = says false
+orderingReply (Ordering.Refused r) = refused (r .number) (r .position)

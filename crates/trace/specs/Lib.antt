@@ -1,0 +1,10 @@
+-- What a reader must believe, in the order in which to read it.
+pub mod Trace
+pub mod Line
+pub mod Graph
+pub mod Race
+pub mod Orders
+pub mod Search
+pub mod Outcome
+pub mod Demands
+pub mod Answers

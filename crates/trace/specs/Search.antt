@@ -1,0 +1,56 @@
+-- The relations of `Graph` and `Race` as tests, each by a bounded search over positions. The theorems in `proofs/` say that each test is its relation.
+-- Assumes nothing.
+use Prim.Native.Nat.{ℕ, zero, suc}
+use mathlib.Core.Bool.{Bool, true, false, cond, not, _&&_, _||_}
+use mathlib.Core.Option.{Option, none, some}
+use lib.Dec.{eqb, ltb}
+use Rattle.trace.specs.Trace.{Trace, FORK, JOIN, HALT, isAccess, conflicting}
+use Rattle.trace.specs.Orders.{orThis}
+
+-- Some position below n passes the test.
+unfoldable pub someBelow : ℕ → (ℕ → Bool) → Bool
+someBelow zero test = false
+someBelow (suc n) test = test n || someBelow n test
+
+-- The least position below n that passes the test.
+unfoldable pub leastBelow : ℕ → (ℕ → Bool) → Option ℕ
+leastBelow zero test = none
+leastBelow (suc n) test = orThis (leastBelow n test) (test n) n
+
+module _ (tr : Trace) (n : ℕ) where
+  -- q is the next event of p's task.
+  unfoldable pub next? : ℕ → ℕ → Bool
+  next? p q = ltb p q && eqb (tr .task q) (tr .task p) && not (someBelow q (λ r. ltb p r && eqb (tr .task r) (tr .task p)))
+
+  -- q is the first event of the task that p forks.
+  unfoldable pub child? : ℕ → ℕ → Bool
+  child? p q =
+      eqb (tr .kind p) FORK && eqb (tr .task q) (tr .operand p) && not (someBelow q (λ r. eqb (tr .task r) (tr .operand p)))
+
+  -- q joins the task whose halt p is.
+  unfoldable pub join? : ℕ → ℕ → Bool
+  join? p q = eqb (tr .kind p) HALT && eqb (tr .kind q) JOIN && eqb (tr .operand q) (tr .task p)
+
+  unfoldable pub arc? : ℕ → ℕ → Bool
+  arc? p q = ltb p n && ltb q n && (next? p q || child? p q || join? p q)
+
+  -- p is q, or a chain of at most k arcs leads from p to q.
+  unfoldable pub chain? : ℕ → ℕ → ℕ → Bool
+  chain? zero p q = eqb p q
+  chain? (suc k) p q = eqb p q || someBelow n (λ m. let back = chain? k p m in cond (arc? m q) back false)
+
+  -- No chain has more arcs than there are events: arcs lead forward.
+  unfoldable pub reach? : ℕ → ℕ → Bool
+  reach? p q = ltb q n && chain? n p q
+
+  unfoldable pub conflict? : ℕ → ℕ → Bool
+  conflict? p q =
+      ltb p n
+      && ltb q n
+      && isAccess (tr .kind p)
+      && isAccess (tr .kind q)
+      && eqb (tr .operand p) (tr .operand q)
+      && conflicting (tr .kind p) (tr .kind q)
+
+  unfoldable pub race? : ℕ → ℕ → Bool
+  race? p q = let unordered = not (reach? p q) && not (reach? q p) in cond (conflict? p q) unordered false
