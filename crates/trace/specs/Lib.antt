@@ -8,3 +8,4 @@ pub mod Search
 pub mod Outcome
 pub mod Demands
 pub mod Answers
+pub mod Runs

@@ -17,7 +17,7 @@ unfoldable pub leastBelow : ℕ → (ℕ → Bool) → Option ℕ
 leastBelow zero test = none
 leastBelow (suc n) test = orThis (leastBelow n test) (test n) n
 
-module _ (tr : Trace) (n : ℕ) where
+module _ (tr : Trace) where
   -- q is the next event of p's task.
   unfoldable pub next? : ℕ → ℕ → Bool
   next? p q = ltb p q && eqb (tr .task q) (tr .task p) && not (someBelow q (λ r. ltb p r && eqb (tr .task r) (tr .task p)))
@@ -31,8 +31,10 @@ module _ (tr : Trace) (n : ℕ) where
   unfoldable pub join? : ℕ → ℕ → Bool
   join? p q = eqb (tr .kind p) HALT && eqb (tr .kind q) JOIN && eqb (tr .operand q) (tr .task p)
 
+-- Among the first n events:
+module _ (tr : Trace) (n : ℕ) where
   unfoldable pub arc? : ℕ → ℕ → Bool
-  arc? p q = ltb p n && ltb q n && (next? p q || child? p q || join? p q)
+  arc? p q = ltb p n && ltb q n && (next? tr p q || child? tr p q || join? tr p q)
 
   -- p is q, or a chain of at most k arcs leads from p to q.
   unfoldable pub chain? : ℕ → ℕ → ℕ → Bool

@@ -1,0 +1,232 @@
+-- DEMAND 2. "Past the size checks (rows 1 to 4), a trace is called clean exactly when it keeps the line rules and every two conflicting accesses are
+-- joined by a path in its task graph. Otherwise the first event that breaks a rule or races with an earlier one decides the answer. A race names the
+-- first access that has a conflicting, unordered access before it, and the earliest such partner." The theorem is the last declaration but one; the last
+-- says that exactly one of the three holds of every trace. Assumes nothing.
+use Prim.Native.Nat.{ℕ, zero, suc, _<_, _≤_}
+use mathlib.Core.Path.{_≡_, refl, sym, ap, subst, _∙_}
+use mathlib.Core.Bool.{Bool, true, false}
+use mathlib.Core.Option.{Option, none, some}
+use mathlib.Core.Logic.{_⊎_, inl, inr, _↔_}
+use native.Mathlib.Omega.{arith}
+use Rattle.trace.specs.Trace.{Trace, conflicting}
+use Rattle.trace.specs.Line.{Line, Checked, passes, fails, haltOperand, step, lineAfter}
+use Rattle.trace.specs.Graph.{Reach, here, graphEvents}
+use Rattle.trace.specs.Race.{Conflict, Race}
+use Rattle.trace.specs.Search.{leastBelow, reach?, race?}
+use Rattle.trace.specs.Outcome.{Reply, says, refused, Verdict, clean, race, orElse, raceWith, partner, failureAt, firstFailure, atEnd, orAtEnd, judgement}
+use Rattle.trace.specs.Demands.{KeepsRules, BreaksFirst, NoRaceBefore, graphOf, IsClean, IsRefused, IsRace, Demand2, ExactlyOne}
+use Rattle.trace.proofs.Tests.{by-test, either, lt-or-le, same-or-not, last-or-below, Tests, tests-fails, test-or, test-eq, tests-map, Least, LeastIs, least-is}
+use Rattle.trace.proofs.Lines.{passes-not-fails, step-row, line-more, fails-later, passes-earlier, graph-all}
+use Rattle.trace.proofs.Paths.{Forward}
+use Rattle.trace.proofs.Searches.{test-reach, test-race}
+
+-- which of two kinds comes first does not matter to a conflict
+pub conflicting-sym : (j k : ℕ) → conflicting j k ≡ true → conflicting k j ≡ true
+unfolding conflicting
+conflicting-sym j k e =
+    test-or _ _ (test-eq k 1) (test-eq j 1) .1 (either (test-or _ _ (test-eq j 1) (test-eq k 1) .0 e) (λ w. inr w) (λ w. inl w))
+
+pub conflict-sym : {tr : Trace} {graph p q : ℕ} → Conflict tr graph p q → Conflict tr graph q p
+conflict-sym {tr} {graph} {p} {q} c =
+    record {
+      first-event = c .second-event;
+      second-event = c .first-event;
+      first-access = c .second-access;
+      second-access = c .first-access;
+      one-location = sym (c .one-location);
+      kinds-conflict = conflicting-sym (tr .kind p) (tr .kind q) (c .kinds-conflict);
+    }
+
+module _ (tr : Trace) where
+  -- ---- events that keep the rules, and the first that does not
+
+  kept-not-broken : (m p number : ℕ) → p < m → KeepsRules tr m → BreaksFirst tr p number → ⊥
+  kept-not-broken m p number h k b =
+      passes-not-fails (k .reached)
+      (fails-later haltOperand tr (suc p) m number h (line-more haltOperand tr p (b .line) (b .kept-before) ∙ b .broken))
+
+  broken-once : (p p′ number number′ : ℕ) → BreaksFirst tr p number → BreaksFirst tr p′ number′ → p ≡ p′
+  broken-once p p′ number number′ b b′ =
+      let below : p < p′ → ⊥ = λ h. kept-not-broken p′ p number h (record { line = b′ .line; reached = b′ .kept-before }) b in
+      let above : p′ < p → ⊥ = λ h. kept-not-broken p p′ number′ h (record { line = b .line; reached = b .kept-before }) b′ in
+      omega arith
+
+  one-row : (p number number′ : ℕ) → BreaksFirst tr p number → BreaksFirst tr p number′ → number ≡ number′
+  one-row p number number′ b b′ =
+      let l : b .line ≡ b′ .line = cc (b .kept-before, b′ .kept-before) in
+      let e : step haltOperand tr p (b′ .line) ≡ fails number = rw l at (b .broken) in
+      cc (e, b′ .broken)
+
+module _ (tr : Trace) (n : ℕ) (forward : Forward tr (graphOf tr n)) where
+  abbrev graph : ℕ
+  graph = graphOf tr n
+
+  -- ---- what an answer means, and that the computed answer means it
+
+  abbrev Means : Reply Verdict → Type 0
+  Means (says clean) = KeepsRules tr n × NoRaceBefore tr graph n
+  Means (says (race s t)) = IsRace tr n s t
+  Means (refused number p) = IsRefused tr n number p
+
+  -- the first t events, with the failure among them
+  abbrev Decided : ℕ → Option (Reply Verdict) → Type 0
+  Decided t none = KeepsRules tr t × NoRaceBefore tr graph t
+  Decided t (some reply) = Means reply
+
+  no-race-more : (t : ℕ) → NoRaceBefore tr graph t → ((s : ℕ) → s < t → race? tr graph s t ≡ false) → NoRaceBefore tr graph (suc t)
+  no-race-more t before none-at p q h i r =
+      either (last-or-below q t i)
+      (λ e. tests-fails _ (test-race tr graph forward p t) (none-at p (omega arith)) (subst (λ (z : ℕ). Race tr graph p z) e r))
+      (λ j. before p q h j r)
+
+  decided-race :
+      (t : ℕ) → t < n → KeepsRules tr (suc t) → NoRaceBefore tr graph t → (o : Option ℕ) → LeastIs t (λ s. race? tr graph s t) o
+      → Decided (suc t) (raceWith t o)
+  unfolding raceWith
+  decided-race t h k before none L = (k, no-race-more t before L)
+  decided-race t h k before (some s) L =
+      record {
+        inside = h;
+        before = L .below;
+        keeps-rules = k;
+        pair = test-race tr graph forward s t .0 (L .passed);
+        first = before;
+        earliest = λ p i. tests-fails _ (test-race tr graph forward p t) (L .none-before p i);
+      }
+
+  decided-event :
+      (t : ℕ) → t < n → KeepsRules tr t → NoRaceBefore tr graph t → (c : Checked Line) → lineAfter haltOperand tr (suc t) ≡ c
+      → Decided (suc t) (failureAt haltOperand tr n t c)
+  unfolding failureAt partner
+  decided-event t h k before (passes line) e =
+      decided-race t h (record { line = line; reached = e }) before (leastBelow t (λ s. race? tr graph s t)) (least-is t (λ s. race? tr graph s t))
+  decided-event t h k before (fails number) e =
+      record {
+        inside = h;
+        breaks-first =
+            record { line = k .line; kept-before = k .reached; broken = sym (line-more haltOperand tr t (k .line) (k .reached)) ∙ e };
+        no-race = before;
+      }
+
+  decided-more :
+      (t : ℕ) → t < n → (o : Option (Reply Verdict)) → Decided t o
+      → Decided (suc t) (orElse o (failureAt haltOperand tr n t (lineAfter haltOperand tr (suc t))))
+  unfolding orElse
+  decided-more t h (some reply) d = d
+  decided-more t h none d = decided-event t h (d .0) (d .1) (lineAfter haltOperand tr (suc t)) refl
+
+  decided : (t : ℕ) → t ≤ n → Decided t (firstFailure haltOperand tr n t)
+  unfolding firstFailure lineAfter
+  decided zero h = (record { line = _; reached = refl }, λ p q i j. absurd (omega arith))
+  decided (suc t) h = decided-more t h (firstFailure haltOperand tr n t) (decided t (omega arith))
+
+  means-end : (o : Option (Reply Verdict)) → Decided n o → Means (orAtEnd haltOperand tr n o)
+  unfolding orAtEnd atEnd
+  means-end none d = d
+  means-end (some reply) d = d
+
+  judgement-means : Means (judgement haltOperand tr n)
+  unfolding judgement
+  judgement-means = means-end (firstFailure haltOperand tr n n) (decided n (omega arith))
+
+  -- ---- no race is: every two conflicting accesses are connected
+
+  connected-up : NoRaceBefore tr graph n → graph ≡ n → (p q : ℕ) → p < q → Conflict tr graph p q → Reach tr graph p q ⊎ Reach tr graph q p
+  connected-up calm whole p q h c =
+      by-test (reach? tr graph p q) (λ e. inl (test-reach tr graph forward p q .0 e))
+      (λ e.
+      by-test (reach? tr graph q p) (λ f. inr (test-reach tr graph forward q p .0 f))
+      (λ f.
+      let i = c .second-event in
+      absurd
+      (calm p q h (omega arith)
+      (record {
+        conflict = c;
+        not-forth = tests-fails _ (test-reach tr graph forward p q) e;
+        not-back = tests-fails _ (test-reach tr graph forward q p) f;
+      }))))
+
+  means-clean : KeepsRules tr n → NoRaceBefore tr graph n → IsClean tr n
+  means-clean k calm =
+      let whole : graph ≡ n = graph-all haltOperand tr n (k .line) (k .reached) in
+      record { keeps-rules = k; connected = λ p q c. pair whole p q c (lt-or-le p q) }
+    where
+      pair : graph ≡ n → (p q : ℕ) → Conflict tr graph p q → (p < q) ⊎ (q ≤ p) → Reach tr graph p q ⊎ Reach tr graph q p
+      pair whole p q c (inl h) = connected-up calm whole p q h c
+      pair whole p q c (inr h) =
+          either (same-or-not p q) (λ e. inl (here (c .second-event) e))
+          (λ d. either (connected-up calm whole q p (omega arith) (conflict-sym c)) (λ path. inr path) (λ path. inl path))
+
+  clean-calm : IsClean tr n → (s t : ℕ) → Race tr graph s t → ⊥
+  clean-calm c s t r = either (c .connected s t (r .conflict)) (r .not-forth) (r .not-back)
+
+  -- ---- each meaning has only its own answer
+
+  answer-clean : IsClean tr n → (reply : Reply Verdict) → Means reply → reply ≡ says clean
+  answer-clean c (says clean) m = refl
+  answer-clean c (says (race s t)) m = absurd (clean-calm c s t (m .pair))
+  answer-clean c (refused number p) m = absurd (kept-not-broken tr n p number (m .inside) (c .keeps-rules) (m .breaks-first))
+
+  race-not-refused : (s t number p : ℕ) → IsRace tr n s t → IsRefused tr n number p → ⊥
+  race-not-refused s t number p r b =
+      either (lt-or-le p (suc t)) (λ h. kept-not-broken tr (suc t) p number h (r .keeps-rules) (b .breaks-first))
+      (λ h. b .no-race s t (r .before) (omega arith) (r .pair))
+
+  answer-refused : (number p : ℕ) → IsRefused tr n number p → (reply : Reply Verdict) → Means reply → reply ≡ refused number p
+  answer-refused number p b (says clean) m = absurd (kept-not-broken tr n p number (b .inside) (m .0) (b .breaks-first))
+  answer-refused number p b (says (race s t)) m = absurd (race-not-refused s t number p m b)
+  answer-refused number p b (refused number′ p′) m =
+      let e : p′ ≡ p = broken-once tr p′ p number′ number (m .breaks-first) (b .breaks-first) in
+      let f : number′ ≡ number = one-row tr p number′ number (rw e at (m .breaks-first)) (b .breaks-first) in
+      cc
+
+  answer-race : (s t : ℕ) → IsRace tr n s t → (reply : Reply Verdict) → Means reply → reply ≡ says (race s t)
+  answer-race s t r (says clean) m = absurd (m .1 s t (r .before) (r .inside) (r .pair))
+  answer-race s t r (refused number p) m = absurd (race-not-refused s t number p r m)
+  answer-race s t r (says (race s′ t′)) m =
+      let below : t < t′ → ⊥ = λ h. m .first s t (r .before) h (r .pair) in
+      let above : t′ < t → ⊥ = λ h. r .first s′ t′ (m .before) h (m .pair) in
+      let e : t′ ≡ t = omega arith in
+      let pair′ : Race tr graph s′ t = rw e at (m .pair) in
+      let lower : s < s′ → ⊥ = λ h. m .earliest s h (rw (← e) at (r .pair)) in
+      let upper : s′ < s → ⊥ = λ h. r .earliest s′ h pair′ in
+      let f : s′ ≡ s = omega arith in
+      cc
+
+  means-is : (reply : Reply Verdict) → judgement haltOperand tr n ≡ reply → Means reply
+  means-is reply e = subst (λ (r : Reply Verdict). Means r) e judgement-means
+
+  -- DEMAND 2.
+  pub demand-2 : Demand2 tr n (judgement haltOperand tr n)
+  demand-2 =
+      record {
+        clean-iff =
+            (λ e. let m = means-is (says clean) e in means-clean (m .0) (m .1), λ c. answer-clean c (judgement haltOperand tr n) judgement-means);
+        refused-iff = λ number p. (means-is (refused number p), λ b. answer-refused number p b (judgement haltOperand tr n) judgement-means);
+        race-iff = λ s t. (means-is (says (race s t)), λ r. answer-race s t r (judgement haltOperand tr n) judgement-means);
+        rows = λ number p e.
+            let b = means-is (refused number p) e .breaks-first in step-row haltOperand tr p number (b .line) (b .broken);
+      }
+
+  -- Exactly one of the three holds.
+  pub exactly-one : ExactlyOne tr n
+  exactly-one =
+      record {
+        one-holds = one (judgement haltOperand tr n) judgement-means;
+        clean-or-refused = λ number p c b. kept-not-broken tr n p number (b .inside) (c .keeps-rules) (b .breaks-first);
+        clean-or-race = λ s t c r. clean-calm c s t (r .pair);
+        refused-or-race = λ number p s t b r. race-not-refused s t number p r b;
+        one-refusal = λ number p number′ p′ b b′. two (answer-refused number p b (refused number′ p′) b′);
+        one-race = λ s t s′ t′ r r′. both (answer-race s t r (says (race s′ t′)) r′);
+      }
+    where
+      one : (reply : Reply Verdict) → Means reply → IsClean tr n ⊎ ((number : ℕ) × (p : ℕ) × IsRefused tr n number p) ⊎ ((s : ℕ) × (t : ℕ) × IsRace tr n s t)
+      one (says clean) m = inl (means-clean (m .0) (m .1))
+      one (says (race s t)) m = inr (inr (s, t, m))
+      one (refused number p) m = inr (inl (number, p, m))
+
+      two : {number p number′ p′ : ℕ} → _≡_ {A = Reply Verdict} (refused number′ p′) (refused number p) → (number ≡ number′) × (p ≡ p′)
+      two e = (cc, cc)
+
+      both : {s t s′ t′ : ℕ} → _≡_ {A = Reply Verdict} (says (race s′ t′)) (says (race s t)) → (s ≡ s′) × (t ≡ t′)
+      both e = (cc, cc)
