@@ -8,34 +8,19 @@ use mathlib.Core.Bool.{Bool, true, false}
 use mathlib.Core.Option.{Option, none, some}
 use mathlib.Core.Logic.{_⊎_, inl, inr, _↔_}
 use native.Mathlib.Omega.{arith}
-use Rattle.trace.specs.Trace.{Trace, conflicting}
+use Rattle.trace.specs.Trace.{Trace}
 use Rattle.trace.specs.Line.{Line, Checked, passes, fails, haltOperand, step, lineAfter}
 use Rattle.trace.specs.Graph.{Reach, here, graphEvents}
 use Rattle.trace.specs.Race.{Conflict, Race}
 use Rattle.trace.specs.Search.{leastBelow, reach?, race?}
 use Rattle.trace.specs.Outcome.{Reply, says, refused, Verdict, clean, race, orElse, raceWith, partner, failureAt, firstFailure, atEnd, orAtEnd, judgement}
 use Rattle.trace.specs.Demands.{KeepsRules, BreaksFirst, NoRaceBefore, graphOf, IsClean, IsRefused, IsRace, Demand2, ExactlyOne}
-use Rattle.trace.proofs.Tests.{by-test, either, lt-or-le, same-or-not, last-or-below, Tests, tests-fails, test-or, test-eq, tests-map, Least, LeastIs, least-is}
+use Rattle.trace.proofs.Tests.{by-test, either, lt-or-le, same-or-not, last-or-below, Tests, tests-fails, Least, LeastIs, least-is}
 use Rattle.trace.proofs.Lines.{passes-not-fails, step-row, line-more, fails-later, passes-earlier, graph-all}
+use Rattle.trace.proofs.Conflicts.{conflict-sym}
 use Rattle.trace.proofs.Paths.{Forward}
+use Rattle.trace.proofs.Forward.{graph-forward}
 use Rattle.trace.proofs.Searches.{test-reach, test-race}
-
--- which of two kinds comes first does not matter to a conflict
-pub conflicting-sym : (j k : ℕ) → conflicting j k ≡ true → conflicting k j ≡ true
-unfolding conflicting
-conflicting-sym j k e =
-    test-or _ _ (test-eq k 1) (test-eq j 1) .1 (either (test-or _ _ (test-eq j 1) (test-eq k 1) .0 e) (λ w. inr w) (λ w. inl w))
-
-pub conflict-sym : {tr : Trace} {graph p q : ℕ} → Conflict tr graph p q → Conflict tr graph q p
-conflict-sym {tr} {graph} {p} {q} c =
-    record {
-      first-event = c .second-event;
-      second-event = c .first-event;
-      first-access = c .second-access;
-      second-access = c .first-access;
-      one-location = sym (c .one-location);
-      kinds-conflict = conflicting-sym (tr .kind p) (tr .kind q) (c .kinds-conflict);
-    }
 
 module _ (tr : Trace) where
   -- ---- events that keep the rules, and the first that does not
@@ -57,9 +42,12 @@ module _ (tr : Trace) where
       let e : step haltOperand tr p (b′ .line) ≡ fails number = rw l at (b .broken) in
       cc (e, b′ .broken)
 
-module _ (tr : Trace) (n : ℕ) (forward : Forward tr (graphOf tr n)) where
+module _ (tr : Trace) (n : ℕ) where
   abbrev graph : ℕ
   graph = graphOf tr n
+
+  forward : Forward tr graph
+  forward = graph-forward haltOperand tr n
 
   -- ---- what an answer means, and that the computed answer means it
 
@@ -155,7 +143,7 @@ module _ (tr : Trace) (n : ℕ) (forward : Forward tr (graphOf tr n)) where
       pair whole p q c (inl h) = connected-up calm whole p q h c
       pair whole p q c (inr h) =
           either (same-or-not p q) (λ e. inl (here (c .second-event) e))
-          (λ d. either (connected-up calm whole q p (omega arith) (conflict-sym c)) (λ path. inr path) (λ path. inl path))
+          (λ d. either (connected-up calm whole q p (omega arith) (conflict-sym tr graph c)) (λ path. inr path) (λ path. inl path))
 
   clean-calm : IsClean tr n → (s t : ℕ) → Race tr graph s t → ⊥
   clean-calm c s t r = either (c .connected s t (r .conflict)) (r .not-forth) (r .not-back)

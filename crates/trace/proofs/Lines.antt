@@ -18,6 +18,13 @@ by-check (fails number) f g = g number refl
 pub passes-not-fails : {A : Type 0} {a : A} {number : ℕ} {c : Checked A} → c ≡ passes a → c ≡ fails number → ⊥
 passes-not-fails e f = let z : _≡_ {A = ℕ} 0 1 = cc in omega arith
 
+-- Where all rows pass, no condition of a row holds.
+pub row-passes : {A : Type 0} (number : ℕ) (condition : Bool) (next : Checked A) (a : A) → row number condition next ≡ passes a
+    → (condition ≡ false) × (next ≡ passes a)
+unfolding row
+row-passes number true next a e = absurd (passes-not-fails e refl)
+row-passes number false next a e = (refl, e)
+
 -- ---- the rows of one event are 5 to 12
 
 abbrev Row : Checked Line → Type 0

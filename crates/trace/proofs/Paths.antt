@@ -1,7 +1,7 @@
 -- Laws of arcs and paths in the graph of the first `graph` events of a trace: paths never leave the graph, they can be put together, and where arcs
 -- lead forward paths do too. Assumes nothing; that arcs lead forward is asked for by name, as `Forward`.
 use Prim.Native.Nat.{ℕ, _<_, _≤_}
-use mathlib.Core.Path.{_≡_, refl}
+use mathlib.Core.Path.{refl}
 use native.Mathlib.Omega.{arith}
 use Rattle.trace.specs.Trace.{Trace}
 use Rattle.trace.specs.Graph.{Arc, to-next, to-child, to-join, Reach, here, more}

@@ -4,12 +4,12 @@ use mathlib.Core.Path.{_≡_}
 use mathlib.Core.List.{List}
 use mathlib.Core.Logic.{_⊎_, _↔_}
 use lib.ListN.{length, getD, take, drop}
-use Rattle.trace.specs.Trace.{Trace, READ}
+use Rattle.trace.specs.Trace.{Trace, traceOf, READ}
 use Rattle.trace.specs.Line.{Line, passes, fails, haltOperand, step, lineAfter}
 use Rattle.trace.specs.Graph.{Reach, graphEvents}
 use Rattle.trace.specs.Race.{Conflict, Race}
 use Rattle.trace.specs.Orders.{Order, KeepsArcs, positions, lastWrite, sees}
-use Rattle.trace.specs.Outcome.{Reply, says, refused, Verdict, clean, race}
+use Rattle.trace.specs.Outcome.{Reply, says, refused, Verdict, clean, race, sizes, orderRoom}
 
 -- ---- demand 2, for the first n events of a trace
 
@@ -69,6 +69,10 @@ module _ (tr : Trace) (n : ℕ) where
     pub one-refusal : (number p number′ p′ : ℕ) → IsRefused number p → IsRefused number′ p′ → (number ≡ number′) × (p ≡ p′)
     pub one-race : (s t s′ t′ : ℕ) → IsRace s t → IsRace s′ t′ → (s ≡ s′) × (t ≡ t′)
 
+-- DEMAND 2 of the judge's answer to what was lent: "Past the size checks (rows 1 to 4)" it holds of the trace's n events.
+pub record JudgeDemand2 (kinds tasks operands workspace first second : List ℕ) (answer : Reply Verdict) : Type 0 where
+  pub past-sizes : (n : ℕ) → orderRoom first second (sizes kinds tasks operands workspace) ≡ passes n → Demand2 (traceOf kinds tasks operands) n answer
+
 -- ---- demand 3
 
 -- In the order o "each read sees the same write as in the trace itself, and each location ends with the same last write as there".
@@ -97,7 +101,13 @@ pub record Witnesses (tr : Trace) (graph s t : ℕ) (o₁ o₂ : List ℕ) : Typ
 
 -- DEMAND 3 of an answer about the first n events, and of the order buffers before (b₁, b₂) and after (a₁, a₂).
 pub record Demand3 (tr : Trace) (n : ℕ) (answer : Reply Verdict) (b₁ b₂ a₁ a₂ : List ℕ) : Type 0 where
+  -- "if the judge said clean, then whatever order of all the events the cores take, so long as it keeps all arcs of the task graph, ..."
   pub when-clean : answer ≡ says clean → (o : List ℕ) → Order n o → KeepsArcs tr (graphOf tr n) n o → SameWrites tr n o
+  -- "If it said race s t, the first t + 1 cells of the two order buffers hold two orders of the events up to t, t included. ..."
   pub when-race : (s t : ℕ) → answer ≡ says (race s t) → Witnesses tr (graphOf tr n) s t (take (suc t) a₁) (take (suc t) a₂)
   pub unchanged₁ : (s t : ℕ) → answer ≡ says (race s t) → drop (suc t) a₁ ≡ drop (suc t) b₁
   pub unchanged₂ : (s t : ℕ) → answer ≡ says (race s t) → drop (suc t) a₂ ≡ drop (suc t) b₂
+
+-- DEMAND 3 of the judge's answer to what was lent, and of the order buffers at exit: "For every trace and every set of lent buffers".
+abbrev pub JudgeDemand3 : List ℕ → List ℕ → List ℕ → Reply Verdict → List ℕ → List ℕ → List ℕ → List ℕ → Type 0
+JudgeDemand3 kinds tasks operands answer b₁ b₂ a₁ a₂ = Demand3 (traceOf kinds tasks operands) (length kinds) answer b₁ b₂ a₁ a₂

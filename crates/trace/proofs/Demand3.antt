@@ -1,0 +1,128 @@
+-- DEMAND 3. "For every trace and every set of lent buffers: if the judge said clean, then whatever order of all the events the cores take, so long as it
+-- keeps all arcs of the task graph, each read sees the same write as in the trace itself, and each location ends with the same last write as there. If it
+-- said race s t, the first t + 1 cells of the two order buffers hold two orders of the events up to t, t included. Each keeps all arcs between those
+-- events. The two are equal at every place but two, side by side, where the first has s, t and the second t, s."
+-- The last two declarations are demands 2 and 3 of the judge's outcome, for everything that can be lent. Assumes nothing.
+use Prim.Native.Nat.{ℕ, suc, _<_, _≤_}
+use mathlib.Core.Path.{_≡_, refl, sym, ap, subst, _∙_}
+use mathlib.Core.Bool.{Bool, not, _&&_, _||_}
+use mathlib.Core.List.{List, _∷_, _++_}
+use mathlib.Core.Logic.{_⊎_, inl, inr}
+use native.Mathlib.Omega.{arith}
+use lib.Dec.{eqb}
+use lib.ListN.{length, take, drop}
+use lib.Seq.{take-at, drop-at}
+use Rattle.trace.specs.Trace.{Trace, traceOf}
+use Rattle.trace.specs.Line.{Checked, passes, fails, haltOperand}
+use Rattle.trace.specs.Graph.{Reach, here, graphEvents}
+use Rattle.trace.specs.Race.{Race}
+use Rattle.trace.specs.Orders.{Order, KeepsArcs}
+use Rattle.trace.specs.Search.{reach?}
+use Rattle.trace.specs.Outcome.{Reply, says, refused, Verdict, clean, race, judgement, inD?, schedule, sizes, orderRoom, Outcome, firstOrder, secondOrder, judgeChecked, judgeOutcome}
+use Rattle.trace.specs.Demands.{graphOf, SameWrites, Witnesses, Demand2, Demand3, JudgeDemand2, JudgeDemand3}
+use Rattle.trace.proofs.Tests.{either, Tests, tests-map, tests-false, test-and, test-or, test-not, test-eq}
+use Rattle.trace.proofs.Lines.{graph-all, passes-not-fails}
+use Rattle.trace.proofs.Forward.{graph-forward}
+use Rattle.trace.proofs.Paths.{Forward}
+use Rattle.trace.proofs.Searches.{test-reach}
+use Rattle.trace.proofs.Sizes.{sized-first}
+use Rattle.trace.proofs.Demand2.{demand-2}
+use Rattle.trace.proofs.SameWrites.{same-writes}
+use Rattle.trace.proofs.WitnessOrders.{InD, witness-orders, schedule-length}
+
+-- The computed test of D is "the events other than s and t that reach s or t".
+pub test-in-D : (tr : Trace) (graph : ℕ) → Forward tr graph → (s t p : ℕ) → Tests (inD? tr graph s t p) (InD tr graph s t p)
+unfolding inD?
+test-in-D tr graph forward s t p =
+    tests-map (λ h. record { not-s = h .0 .0; not-t = h .0 .1; reaches = h .1 }) (λ d. ((d .not-s, d .not-t), d .reaches))
+    (test-and _ _ (test-and _ _ (test-not _ (test-eq p s)) (test-not _ (test-eq p t)))
+    (test-or _ _ (test-reach tr graph forward p s) (test-reach tr graph forward p t)))
+
+module _ (tr : Trace) (n : ℕ) where
+  abbrev graph : ℕ
+  graph = graphOf tr n
+
+  abbrev forward : Forward tr graph
+  forward = graph-forward haltOperand tr n
+
+  -- CLEAN.
+  pub clean-same : judgement haltOperand tr n ≡ says clean → (o : List ℕ) → Order n o → KeepsArcs tr graph n o → SameWrites tr n o
+  clean-same e =
+      let c = demand-2 tr n .clean-iff .0 e in
+      let whole : graph ≡ n = graph-all haltOperand tr n (c .keeps-rules .line) (c .keeps-rules .reached) in
+      let calm : (p q : ℕ) → Race tr graph p q → ⊥ = λ p q r. either (c .connected p q (r .conflict)) (r .not-forth) (r .not-back) in
+      λ o order keeps.
+      same-writes tr n (subst (λ (m : ℕ). Forward tr m) whole forward) (λ p q r. calm p q (subst (λ (m : ℕ). Race tr m p q) (sym whole) r)) o order
+      (subst (λ (m : ℕ). KeepsArcs tr m n o) whole keeps)
+
+  -- RACE.
+  module _ (s t : ℕ) (e : judgement haltOperand tr n ≡ says (race s t)) where
+    not-in-D : (p : ℕ) → (p ≡ s) ⊎ (p ≡ t) → inD? tr graph s t p ≡ Bool.false
+    not-in-D p w = tests-false _ (test-in-D tr graph forward s t p) (λ d. either w (d .not-s) (d .not-t))
+
+    pub race-before : (s < t) × (t < n)
+    race-before = let r = demand-2 tr n .race-iff s t .0 e in (r .before, r .inside)
+
+    pub race-witnesses : Witnesses tr graph s t (schedule (inD? tr graph s t) s t s t) (schedule (inD? tr graph s t) s t t s)
+    race-witnesses =
+        let r = demand-2 tr n .race-iff s t .0 e in
+        witness-orders tr graph forward s t (r .before) (r .pair .not-forth) (inD? tr graph s t) (λ p h. test-in-D tr graph forward s t p)
+
+    pub race-length : (a b : ℕ) → length (schedule (inD? tr graph s t) s t a b) ≡ suc t
+    race-length = schedule-length (inD? tr graph s t) s t (race-before .0) (not-in-D s (inl refl)) (not-in-D t (inr refl))
+
+-- The order buffers hold the two lists, and the rest is as it was.
+module _ (tr : Trace) (n : ℕ) (b₁ b₂ : List ℕ) where
+  pub demand-3 :
+      Demand3 tr n (judgement haltOperand tr n) b₁ b₂ (firstOrder tr (graphOf tr n) (judgement haltOperand tr n) b₁)
+      (secondOrder tr (graphOf tr n) (judgement haltOperand tr n) b₂)
+  unfolding firstOrder secondOrder
+  demand-3 =
+      record {
+        when-clean = clean-same tr n;
+        when-race = λ s t e.
+            rw (e, firstOrder, secondOrder, take-at (schedule (inD? tr (graphOf tr n) s t) s t s t) (drop (suc t) b₁) (suc t) (race-length tr n s t e s t), take-at (schedule (inD? tr (graphOf tr n) s t) s t t s) (drop (suc t) b₂) (suc t) (race-length tr n s t e t s))
+            (race-witnesses tr n s t e);
+        unchanged₁ = λ s t e. rw (e, firstOrder) (drop-at (schedule (inD? tr (graphOf tr n) s t) s t s t) (drop (suc t) b₁) (suc t) (race-length tr n s t e s t));
+        unchanged₂ = λ s t e. rw (e, secondOrder) (drop-at (schedule (inD? tr (graphOf tr n) s t) s t t s) (drop (suc t) b₂) (suc t) (race-length tr n s t e t s));
+      }
+
+module _ (kinds tasks operands workspace first second : List ℕ) where
+  abbrev out : Outcome
+  out = judgeOutcome kinds tasks operands workspace first second
+
+  refused-not-says : {v : Verdict} (number : ℕ) → refused number 0 ≡ says v → ⊥
+  refused-not-says number e = let z : _≡_ {A = ℕ} 0 1 = cc in omega arith
+
+  demand-3-checked :
+      (c : Checked ℕ) → ((n : ℕ) → c ≡ passes n → length kinds ≡ n)
+      → JudgeDemand3 kinds tasks operands (judgeChecked kinds tasks operands workspace first second c .answer) first second
+      (judgeChecked kinds tasks operands workspace first second c .first) (judgeChecked kinds tasks operands workspace first second c .second)
+  unfolding judgeChecked
+  demand-3-checked (fails number) sized =
+      record {
+        when-clean = λ e. absurd (refused-not-says number e);
+        when-race = λ s t e. absurd (refused-not-says number e);
+        unchanged₁ = λ s t e. refl;
+        unchanged₂ = λ s t e. refl;
+      }
+  demand-3-checked (passes n) sized = rw (sized n refl) (demand-3 (traceOf kinds tasks operands) n first second)
+
+  demand-2-checked :
+      (c : Checked ℕ) (n : ℕ) → c ≡ passes n
+      → Demand2 (traceOf kinds tasks operands) n (judgeChecked kinds tasks operands workspace first second c .answer)
+  unfolding judgeChecked
+  demand-2-checked (fails number) n e = absurd (passes-not-fails e refl)
+  demand-2-checked (passes m) n e = let same : m ≡ n = cc in rw same (demand-2 (traceOf kinds tasks operands) n)
+
+  -- DEMAND 2 of the judge's outcome.
+  pub judge-demand-2 : JudgeDemand2 kinds tasks operands workspace first second (out .answer)
+  unfolding judgeOutcome
+  judge-demand-2 = record { past-sizes = λ n e. demand-2-checked (orderRoom first second (sizes kinds tasks operands workspace)) n e }
+
+  -- DEMAND 3 of the judge's outcome.
+  pub judge-demand-3 : JudgeDemand3 kinds tasks operands (out .answer) first second (out .first) (out .second)
+  unfolding judgeOutcome
+  judge-demand-3 =
+      demand-3-checked (orderRoom first second (sizes kinds tasks operands workspace))
+      (λ n e. sized-first kinds tasks operands workspace first second n e .of-kinds)
