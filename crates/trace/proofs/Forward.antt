@@ -14,7 +14,7 @@ use Rattle.trace.proofs.Paths.{Forward, arc-inside, reach-inside}
 use Rattle.trace.proofs.Lines.{graph-kept}
 use Rattle.trace.proofs.EventKinds.{access-not-fork, access-not-join}
 use Rattle.trace.proofs.Stacks.{In, in-eq}
-use Rattle.trace.proofs.Run.{InLine, joined-gone, Run, start, access, fork, join, halt, used-numbers, distinct-stacks}
+use Rattle.trace.proofs.Run.{InLine, halted-in-line, joined-gone, Run, start, access, fork, join, halt, used-numbers, distinct-stacks}
 use Rattle.trace.proofs.TwoStacks.{run-of}
 
 -- Among the first n events: a joined task is out of the line for good, forks come before the child's events and halts before the joins.
@@ -98,7 +98,7 @@ module _ (rule : Line → ℕ) (tr : Trace) where
       }
   in-order (halt {n = n} {left = left} {paused = paused} {used = used} run k o) =
       order-next run (in-order run) (tr .task n ∷ left) paused used (λ j. omega arith) (λ f. absurd (omega arith))
-      (λ y i j. either j (λ l. inl (inr l)) (λ l. either l (λ e. inl (inl e)) (λ m. inr m))) (λ y i. i)
+      (λ y i. halted-in-line (tr .task n) left paused y) (λ y i. i)
 
   pub run-forward : {n : ℕ} {left active used : List ℕ} {group last : ℕ → ℕ} → Run rule tr n left active used group last → Forward tr n
   run-forward run p q (to-next h i a b) = h

@@ -9,7 +9,11 @@ pub mod EventKinds
 pub mod Run
 pub mod TwoStacks
 pub mod Forward
+pub mod Tips
+pub mod OrderLemma
 pub mod Leftmost
+pub mod AccessLemma
+pub mod Congruence
 pub mod OrderFacts
 pub mod Conflicts
 pub mod Searches

@@ -64,6 +64,10 @@ zero-in y (z ∷ l) e = inr (zero-in z l e)
 in-line-eq : {a b : ℕ} (left active : List ℕ) → a ≡ b → InLine left active b → InLine left active a
 in-line-eq left active e i = subst (λ (z : ℕ). InLine left active z) (sym e) i
 
+-- A halt keeps the running task x in the line.
+pub halted-in-line : (x : ℕ) (left paused : List ℕ) (y : ℕ) → InLine (x ∷ left) paused y → InLine left (x ∷ paused) y
+halted-in-line x left paused y i = either i (λ j. inl (inr j)) (λ j. either j (λ e. inl (inl e)) (λ l. inr l))
+
 -- The groups of the line with v joined into x.
 joined-in-line : (v x : ℕ) (left paused : List ℕ) (y : ℕ) → InLine (v ∷ left) (x ∷ paused) y → InLine left (x ∷ paused) (rename v x y)
 joined-in-line v x left paused y i =
@@ -92,7 +96,10 @@ module _ {tr : Trace} where
       either (last-or-below p n h) (λ e. absurd (k (sym (ap (tr .kind) e) ∙ f))) (λ i. u .of-fork p i f)
 
   -- An event that is no fork and adds no task to the line.
-  used-next : {n : ℕ} {left left′ paused active used : List ℕ} → UsedNumbers tr n left (tr .task n ∷ paused) used → tr .kind n ≢ FORK → ((y : ℕ) → InLine left′ active y → InLine left (tr .task n ∷ paused) y) → length active + length left′ ≤ length (tr .task n ∷ paused) + length left → UsedNumbers tr (suc n) left′ active used
+  used-next : {n : ℕ} {left left′ paused active used : List ℕ} → UsedNumbers tr n left (tr .task n ∷ paused) used → tr .kind n ≢ FORK →
+      ((y : ℕ) → InLine left′ active y → InLine left (tr .task n ∷ paused) y) →
+      length active + length left′ ≤ length (tr .task n ∷ paused) + length left →
+      UsedNumbers tr (suc n) left′ active used
   used-next {n = n} u k f fewer =
       record {
         of-active = λ y i. either (f y (inl i)) (u .of-active y) (u .of-left y);
@@ -164,8 +171,8 @@ module _ (rule : Line → ℕ) (tr : Trace) where
       }
   used-numbers (join {n = n} run k) =
       used-next (used-numbers run) (λ f. omega arith) (λ y i. either i (λ j. inl j) (λ j. inr (inr j))) (omega arith)
-  used-numbers (halt {n = n} run k o) =
-      used-next (used-numbers run) (λ f. omega arith) (λ y i. either i (λ j. inl (inr j)) (λ j. either j (λ e. inl (inl e)) (λ l. inr l))) (omega arith)
+  used-numbers (halt {n = n} {left = left} {paused = paused} run k o) =
+      used-next (used-numbers run) (λ f. omega arith) (halted-in-line (tr .task n) left paused) (omega arith)
 
   -- The two stacks together hold at most 1,024 tasks.
   pub stacks-length : {n : ℕ} {left active used : List ℕ} {group last : ℕ → ℕ} → Run n left active used group last →
@@ -208,7 +215,8 @@ module _ (rule : Line → ℕ) (tr : Trace) where
 
   -- ---- task 0 stays until the run is over
 
-  ends-in-zero : {n : ℕ} {left active used : List ℕ} {group last : ℕ → ℕ} → Run n left active used group last → EndsInZero active
+  -- Where a task is active, the lowest is task 0.
+  pub ends-in-zero : {n : ℕ} {left active used : List ℕ} {group last : ℕ → ℕ} → Run n left active used group last → EndsInZero active
   ends-in-zero start = refl
   ends-in-zero (access run k o) = ends-in-zero run
   ends-in-zero (fork run k o new) = ends-in-zero run
@@ -243,10 +251,10 @@ module _ (rule : Line → ℕ) (tr : Trace) where
         unused = λ y i. rename-own v x y (group y) (g .unused y i) (λ e. i (u .of-left y (inl e)));
         in-line = λ y i. joined-in-line v x left paused (group y) (g .in-line y i);
       }
-  groups (halt run k o) =
+  groups (halt {n = n} {left = left} {paused = paused} run k o) =
       let g = groups run in
       record {
-        own = λ y i. g .own y (either i (λ j. inl (inr j)) (λ j. either j (λ e. inl (inl e)) (λ l. inr l)));
+        own = λ y i. g .own y (halted-in-line (tr .task n) left paused y i);
         unused = g .unused;
         in-line = λ y i. either (g .in-line y i) (λ j. either j (λ e. inr (inl e)) (λ l. inl l)) (λ j. inr (inr j));
       }

@@ -42,7 +42,9 @@ remove-gone : (a : ℕ) (l : List ℕ) → Distinct l → In a (remove a l) → 
 unfolding remove
 remove-gone a [] d i = i
 remove-gone a (z ∷ l) d i =
-    either (same-or-not z a) (λ e. d .0 (in-eq l e (rw (eq-eqb z a e) at i))) (λ e. either (rw (ne-eqb z a e) at i) (λ q. e (sym q)) (remove-gone a l (d .1)))
+    either (same-or-not z a)
+    (λ e. d .0 (in-eq l e (rw (eq-eqb z a e) at i)))
+    (λ e. either (rw (ne-eqb z a e) at i) (λ q. e (sym q)) (remove-gone a l (d .1)))
 
 remove-distinct : (a : ℕ) (l : List ℕ) → Distinct l → Distinct (remove a l)
 unfolding remove

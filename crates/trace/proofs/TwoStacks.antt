@@ -8,7 +8,8 @@ use mathlib.Core.Logic.{inl, inr}
 use lib.Dec.{eqb, leb}
 use borrow.Author.Tests.{eqb-true, eq-eqb, ne-eqb, leb-false, lt-leb, not-false}
 use Rattle.trace.specs.Trace.{Trace, FORK, JOIN, HALT, isKind, isAccess, LOCATIONS, TASKS}
-use Rattle.trace.specs.Line.{Line, Checked, passes, fails, row, isEmpty, isHead, isMember, isLeftOf, putLeftOf, remove, forked, joined, halted, stepByKind, step, stepAfter, lineAfter}
+use Rattle.trace.specs.Line.{isEmpty, isHead, isMember, isLeftOf, putLeftOf, remove}
+use Rattle.trace.specs.Line.{Line, Checked, passes, fails, row, forked, joined, halted, stepByKind, step, stepAfter, lineAfter}
 use Rattle.trace.specs.Line.{start as startLine}
 use Rattle.trace.proofs.Tests.{by-test, Tests, tests-fails, tests-false, test-eq, test-or}
 use Rattle.trace.proofs.Lines.{line-more}
@@ -178,7 +179,10 @@ module _ (rule : Line → ℕ) (tr : Trace) where
         kept-row (suc n) 8 _ _ (λ e. run-to _ refl (access run k (leb-false LOCATIONS (tr .operand n) e)))
 
     kept-fork : tr .kind n ≡ FORK →
-        KeptBy (suc n) (row 9 (leb TASKS (tr .operand n)) (row 10 (isMember (tr .operand n) used) (passes (forked (tr .task n) (tr .operand n) (lineOf left (tr .task n ∷ paused) used)))))
+        KeptBy (suc n)
+        (row 9 (leb TASKS (tr .operand n))
+        (row 10 (isMember (tr .operand n) used)
+        (passes (forked (tr .task n) (tr .operand n) (lineOf left (tr .task n ∷ paused) used)))))
     kept-fork k =
         let a = tr .operand n in
         kept-row (suc n) 9 _ _ (λ e. kept-row (suc n) 10 _ _ (λ e₁.
@@ -186,7 +190,9 @@ module _ (rule : Line → ℕ) (tr : Trace) where
         (fork run k (leb-false TASKS a e) (tests-fails (isMember a used) (test-member a used) e₁))))
 
     kept-join : tr .kind n ≡ JOIN →
-        KeptBy (suc n) (row 11 (not (isLeftOf (tr .operand n) (tr .task n) (reverseAux left (tr .task n ∷ paused)))) (passes (joined (tr .operand n) (lineOf left (tr .task n ∷ paused) used))))
+        KeptBy (suc n)
+        (row 11 (not (isLeftOf (tr .operand n) (tr .task n) (reverseAux left (tr .task n ∷ paused))))
+        (passes (joined (tr .operand n) (lineOf left (tr .task n ∷ paused) used))))
     kept-join k =
         let a = tr .operand n in
         kept-row (suc n) 11 _ _ (λ e.
@@ -199,11 +205,14 @@ module _ (rule : Line → ℕ) (tr : Trace) where
         (join run′ k))
 
     kept-halt : tr .kind n ≡ HALT →
-        KeptBy (suc n) (row 12 (not (eqb (tr .operand n) (rule (lineOf left (tr .task n ∷ paused) used)))) (passes (halted (lineOf left (tr .task n ∷ paused) used))))
+        KeptBy (suc n)
+        (row 12 (not (eqb (tr .operand n) (rule (lineOf left (tr .task n ∷ paused) used))))
+        (passes (halted (lineOf left (tr .task n ∷ paused) used))))
     kept-halt k =
         let needed = rule (lineOf left (tr .task n ∷ paused) used) in
         kept-row (suc n) 12 _ _ (λ e.
-        run-to _ (halted-line (tr .task n) left paused used) (halt run k (eqb-true (tr .operand n) needed (not-false (eqb (tr .operand n) needed) e))))
+        run-to _ (halted-line (tr .task n) left paused used)
+        (halt run k (eqb-true (tr .operand n) needed (not-false (eqb (tr .operand n) needed) e))))
 
     kept-by-kind : isKind (tr .kind n) ≡ true →
         KeptBy (suc n) (stepByKind rule (tr .kind n) (tr .task n) (tr .operand n) (lineOf left (tr .task n ∷ paused) used))
@@ -245,8 +254,10 @@ module _ (rule : Line → ℕ) (tr : Trace) where
   line-of (access {n = n} {left = left} {paused = paused} {used = used} run k o) =
       line-more rule tr n (lineOf left (tr .task n ∷ paused) used) (line-of run) ∙ step-access rule tr n left paused used k o
   line-of (fork {n = n} {left = left} {paused = paused} {used = used} run k o new) =
-      line-more rule tr n (lineOf left (tr .task n ∷ paused) used) (line-of run) ∙ step-fork rule tr n left paused used (distinct-stacks rule tr run) k o new
+      line-more rule tr n (lineOf left (tr .task n ∷ paused) used) (line-of run)
+      ∙ step-fork rule tr n left paused used (distinct-stacks rule tr run) k o new
   line-of (join {n = n} {left = left} {paused = paused} {used = used} run k) =
-      line-more rule tr n (lineOf (tr .operand n ∷ left) (tr .task n ∷ paused) used) (line-of run) ∙ step-join rule tr n left paused used (distinct-stacks rule tr run) k
+      line-more rule tr n (lineOf (tr .operand n ∷ left) (tr .task n ∷ paused) used) (line-of run)
+      ∙ step-join rule tr n left paused used (distinct-stacks rule tr run) k
   line-of (halt {n = n} {left = left} {paused = paused} {used = used} run k o) =
       line-more rule tr n (lineOf left (tr .task n ∷ paused) used) (line-of run) ∙ step-halt rule tr n left paused used k o
