@@ -13,6 +13,7 @@ use Rattle.trace.proofs.Tests.{either, tests-fails, test-or, test-eq}
 access-apart : (k other : ℕ) → isAccess k ≡ true → isAccess other ≡ false → k ≢ other
 access-apart k other a b e = true≢false (sym a ∙ (ap isAccess e ∙ b))
 
+-- In particular it is no fork, join or halt.
 pub access-not-fork : (k : ℕ) → isAccess k ≡ true → k ≢ FORK
 unfolding isAccess
 access-not-fork k a = access-apart k FORK a refl

@@ -100,6 +100,7 @@ module _ (rule : Line → ℕ) (tr : Trace) where
       order-next run (in-order run) (tr .task n ∷ left) paused used (λ j. omega arith) (λ f. absurd (omega arith))
       (λ y i. halted-in-line (tr .task n) left paused y) (λ y i. i)
 
+  -- The arcs among the events of a run lead forward.
   pub run-forward : {n : ℕ} {left active used : List ℕ} {group last : ℕ → ℕ} → Run rule tr n left active used group last → Forward tr n
   run-forward run p q (to-next h i a b) = h
   run-forward run p q (to-child h i a b c) = in-order run .fork-first p q h i a b

@@ -144,6 +144,7 @@ module _ (rule : Line → ℕ) (tr : Trace) where
 
   -- ---- the numbers used
 
+  -- The facts on the numbers used hold at every moment of a run;
   pub used-numbers : {n : ℕ} {left active used : List ℕ} {group last : ℕ → ℕ} → Run n left active used group last → UsedNumbers tr n left active used
   used-numbers start =
       record {
@@ -189,8 +190,9 @@ module _ (rule : Line → ℕ) (tr : Trace) where
       let u = used-numbers run in
       u .small y (either i (u .of-active y) (u .of-left y))
 
-  -- ---- no task is twice in the line
+  -- ---- the stacks
 
+  -- no task is ever twice in the line;
   pub distinct-stacks : {n : ℕ} {left active used : List ℕ} {group last : ℕ → ℕ} → Run n left active used group last → DistinctStacks left active
   distinct-stacks start = record { of-active = (λ i. i, tt); of-left = tt; disjoint = λ y i j. i }
   distinct-stacks (access run k o) = distinct-stacks run
@@ -229,6 +231,7 @@ module _ (rule : Line → ℕ) (tr : Trace) where
 
   -- ---- groups
 
+  -- and the groups are those of tasks in the line.
   pub groups : {n : ℕ} {left active used : List ℕ} {group last : ℕ → ℕ} → Run n left active used group last → Groups left active used group
   groups start = record { own = λ y i. refl; unused = λ y i. refl; in-line = λ y i. inl i }
   groups (access run k o) = groups run

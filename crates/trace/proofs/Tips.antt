@@ -141,6 +141,7 @@ module _ (tr : Trace) where
       }
 
 module _ (rule : Line → ℕ) (tr : Trace) where
+  -- At every moment of a run `last` names the tips,
   pub tips : {n : ℕ} {left active used : List ℕ} {group last : ℕ → ℕ} → Run rule tr n left active used group last → Tips tr n last
   tips start = record { sound = λ u m e. absurd (omega arith); complete = λ u m c. let h = c .0 in absurd (omega arith) }
   tips (access {n = n} {last = last} run k o) = tips-own tr n last (tips run) (access-not-fork (tr .kind n) k)
@@ -148,6 +149,7 @@ module _ (rule : Line → ℕ) (tr : Trace) where
   tips (join {n = n} {last = last} run k) = tips-own tr n last (tips run) (λ f. omega arith)
   tips (halt {n = n} {last = last} run k o) = tips-own tr n last (tips run) (λ f. omega arith)
 
+  -- and the tips of the tasks in `left` are their halts.
   pub halts : {n : ℕ} {left active used : List ℕ} {group last : ℕ → ℕ} → Run rule tr n left active used group last → Halts tr n left active last
   halts start = record { by-halt = λ u i. absurd i; is-tip = λ m h. absurd (omega arith); not-active = λ m h. absurd (omega arith) }
   halts (access {n = n} {left = left} {paused = paused} {last = last} run k o) =
@@ -227,6 +229,7 @@ module _ (rule : Line → ℕ) (tr : Trace) (graph : ℕ) (forward : Forward tr 
     arc-into m h (to-child a b c d e) = inl (tips rule tr run .complete (tr .task n) m (h, inr (c, sym d, λ r j t. e r j (t ∙ d))))
     arc-into m h (to-join a b c d e) = inr (d, ap last e ∙ halts rule tr run .is-tip m h c)
 
+    -- What reaches one of these tips reaches event n.
     pub reach-own : (p : ℕ) → ReachesTip tr graph p (last (tr .task n)) → Reach tr graph p n
     reach-own p t = more (t .2) (arc-own (t .0) (t .1))
 

@@ -19,6 +19,7 @@ use Rattle.trace.proofs.Run.{lineOf, DistinctStacks, Run, start, access
 
 -- ---- the tests of the rows
 
+-- Row 10 asks whether the number has been used.
 pub test-member : (a : ℕ) (l : List ℕ) → Tests (isMember a l) (In a l)
 unfolding isMember
 test-member a [] = (false≢true, λ i. absurd i)
@@ -77,17 +78,16 @@ left-is-head a x (y ∷ left) paused d =
     left-beyond a x left (y ∷ (x ∷ paused)) (λ i. d .disjoint x (inr i) (inl refl)) (ne-eqb y x (λ q. d .disjoint x (inl (sym q)) (inl refl)))
     ∙ rw (eq-eqb x x refl, head-absent x paused absent, left-absent a x paused absent, and-false, and-true, or-false)
 
--- A fork pushes the child on `active`.
 put-line : (child x : ℕ) (left paused : List ℕ) → (In x left → ⊥) →
     putLeftOf child x (reverseAux left (x ∷ paused)) ≡ reverseAux left (child ∷ (x ∷ paused))
 unfolding putLeftOf
 put-line child x left paused h = put-beyond child x left (x ∷ paused) (child ∷ (x ∷ paused)) h (rw (eq-eqb x x refl))
 
--- A join pops `left`.
 remove-line : (a : ℕ) (left right : List ℕ) → (In a left → ⊥) → remove a (reverseAux (a ∷ left) right) ≡ reverseAux left right
 unfolding remove
 remove-line a left right h = remove-beyond a left (a ∷ right) right h (rw (eq-eqb a a refl))
 
+-- A fork pushes the child on `active`.
 pub forked-line : (child x : ℕ) (left paused used : List ℕ) → DistinctStacks left (x ∷ paused) →
     forked x child (lineOf left (x ∷ paused) used) ≡ lineOf left (child ∷ (x ∷ paused)) (child ∷ used)
 unfolding forked
@@ -95,12 +95,14 @@ forked-line child x left paused used d =
     ap (λ (z : List ℕ). record { tasks = z; active = child ∷ (x ∷ paused); used = child ∷ used })
     (put-line child x left paused (λ i. d .disjoint x i (inl refl)))
 
+-- A join pops `left`.
 pub joined-line : (a : ℕ) (left active used : List ℕ) → DistinctStacks (a ∷ left) active →
     joined a (lineOf (a ∷ left) active used) ≡ lineOf left active used
 unfolding joined
 joined-line a left active used d =
     ap (λ (z : List ℕ). record { tasks = z; active = active; used = used }) (remove-line a left active (d .of-left .0))
 
+-- A halt moves the running task from the top of `active` to the top of `left`.
 pub halted-line : (x : ℕ) (left paused used : List ℕ) → halted (lineOf left (x ∷ paused) used) ≡ lineOf (x ∷ left) paused used
 unfolding halted
 halted-line x left paused used = refl
@@ -115,6 +117,7 @@ module _ (rule : Line → ℕ) (tr : Trace) (n : ℕ) where
   unfolding step row isEmpty
   step-is left paused used k = rw (k, head-same (tr .task n) paused)
 
+  -- Then each kind of event, with what its row asks, passes.
   pub step-access : (left paused used : List ℕ) → isAccess (tr .kind n) ≡ true → tr .operand n < LOCATIONS →
       step rule tr n (lineOf left (tr .task n ∷ paused) used) ≡ passes (lineOf left (tr .task n ∷ paused) used)
   unfolding stepByKind row

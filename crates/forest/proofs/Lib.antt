@@ -1,0 +1,11 @@
+-- Laws that belong to no one function. Crates above use Cells, Chains (`links-few`), Tops, Start, Merged, United and Frame.
+pub mod Cells
+pub mod Count
+pub mod Merged
+pub mod Chains
+pub mod Tops
+pub mod Start
+pub mod Attached
+pub mod United
+pub mod Frame
+pub mod Climb
