@@ -5,8 +5,8 @@ use native.Mathlib.Omega.{arith}
 use mathlib.Core.Path.{_≡_, refl, sym, _∙_}
 use mathlib.Core.Logic.{_⊎_, inl, inr}
 use mathlib.Core.Bool.{true}
-use Rattle.trace.specs.Trace.{Trace, READ, WRITE, isAccess, conflicting}
-use Rattle.trace.specs.Race.{Conflict}
+use Rattle.trace.specs.Trace.{Trace, READ, WRITE, isAccess}
+use Rattle.trace.specs.Race.{conflicting, Conflict}
 use Rattle.trace.specs.Orders.{writes}
 use Rattle.trace.proofs.Tests.{Tests, either, test-or, test-eq}
 use Rattle.trace.proofs.OrderFacts.{test-writes}

@@ -93,27 +93,27 @@ module _ {tr tr′ : Trace} {m n : ℕ} (fewer : m ≤ n) (same : SameButHalts t
 
 -- ---- the line, where the operands of halts agree too
 
-step-same : (rule : Line → ℕ) (tr tr′ : Trace) (p : ℕ) (line : Line) → tr .kind p ≡ tr′ .kind p → tr .task p ≡ tr′ .task p →
-    tr .operand p ≡ tr′ .operand p → step rule tr p line ≡ step rule tr′ p line
+step-same : (haltRule : Line → ℕ) (tr tr′ : Trace) (p : ℕ) (line : Line) → tr .kind p ≡ tr′ .kind p → tr .task p ≡ tr′ .task p →
+    tr .operand p ≡ tr′ .operand p → step haltRule tr p line ≡ step haltRule tr′ p line
 unfolding step
-step-same rule tr tr′ p line k t o = rw (k, t, o)
+step-same haltRule tr tr′ p line k t o = rw (k, t, o)
 
-step-after-same : (rule : Line → ℕ) (tr tr′ : Trace) (p : ℕ) (before : Checked Line) → tr .kind p ≡ tr′ .kind p → tr .task p ≡ tr′ .task p →
-    tr .operand p ≡ tr′ .operand p → stepAfter rule tr p before ≡ stepAfter rule tr′ p before
+step-after-same : (haltRule : Line → ℕ) (tr tr′ : Trace) (p : ℕ) (before : Checked Line) → tr .kind p ≡ tr′ .kind p → tr .task p ≡ tr′ .task p →
+    tr .operand p ≡ tr′ .operand p → stepAfter haltRule tr p before ≡ stepAfter haltRule tr′ p before
 unfolding stepAfter
-step-after-same rule tr tr′ p (passes line) k t o = step-same rule tr tr′ p line k t o
-step-after-same rule tr tr′ p (fails number) k t o = refl
+step-after-same haltRule tr tr′ p (passes line) k t o = step-same haltRule tr tr′ p line k t o
+step-after-same haltRule tr tr′ p (fails number) k t o = refl
 
-module _ (rule : Line → ℕ) {tr tr′ : Trace} {n : ℕ}
+module _ (haltRule : Line → ℕ) {tr tr′ : Trace} {n : ℕ}
     (same : SameButHalts tr tr′ n) (halts : (p : ℕ) → p < n → tr .kind p ≡ HALT → tr .operand p ≡ tr′ .operand p) where
-  pub line-same : (m : ℕ) → m ≤ n → lineAfter rule tr m ≡ lineAfter rule tr′ m
+  pub line-same : (m : ℕ) → m ≤ n → lineAfter haltRule tr m ≡ lineAfter haltRule tr′ m
   unfolding lineAfter
   line-same zero h = refl
   line-same (suc m) h =
       let operand = either (same-or-not (tr .kind m) HALT) (halts m h) (same .operands m h) in
-      rw (line-same m (omega arith)) (step-after-same rule tr tr′ m (lineAfter rule tr′ m) (same .kinds m h) (same .tasks m h) operand)
+      rw (line-same m (omega arith)) (step-after-same haltRule tr tr′ m (lineAfter haltRule tr′ m) (same .kinds m h) (same .tasks m h) operand)
 
-  pub graph-same : (m : ℕ) → m ≤ n → graphEvents rule tr m ≡ graphEvents rule tr′ m
+  pub graph-same : (m : ℕ) → m ≤ n → graphEvents haltRule tr m ≡ graphEvents haltRule tr′ m
   unfolding graphEvents
   graph-same zero h = refl
   graph-same (suc m) h = rw (line-same (suc m) h, graph-same m (omega arith))

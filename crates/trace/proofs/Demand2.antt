@@ -1,53 +1,29 @@
 -- DEMAND 2. "Past the size checks (rows 1 to 4), a trace is called clean exactly when it keeps the line rules and every two conflicting accesses are
 -- joined by a path in its task graph. Otherwise the first event that breaks a rule or races with an earlier one decides the answer. A race names the
--- first access that has a conflicting, unordered access before it, and the earliest such partner." The theorem is the last declaration but one; the last
--- says that exactly one of the three holds of every trace. Assumes nothing.
+-- first access that has a conflicting, unordered access before it, and the earliest such partner." `demand-2` is the
+-- theorem for a trace, and the last declaration says it of the judge's outcome, for everything that can be lent. Assumes nothing.
 use Prim.Native.Nat.{ℕ, zero, suc, _<_, _≤_}
-use mathlib.Core.Path.{_≡_, refl, sym, ap, subst, _∙_}
-use mathlib.Core.Bool.{Bool, true, false}
+use mathlib.Core.Path.{_≡_, refl, sym, subst, _∙_}
+use mathlib.Core.Bool.{false}
 use mathlib.Core.Option.{Option, none, some}
-use mathlib.Core.Logic.{_⊎_, inl, inr, _↔_}
+use mathlib.Core.List.{List}
+use mathlib.Core.Logic.{_⊎_, inl, inr}
 use native.Mathlib.Omega.{arith}
-use Rattle.trace.specs.Trace.{Trace}
-use Rattle.trace.specs.Line.{Line, Checked, passes, fails, haltOperand, step, lineAfter}
-use Rattle.trace.specs.Graph.{Reach, here, graphEvents}
+use Rattle.trace.specs.Trace.{Trace, traceOf}
+use Rattle.trace.specs.Line.{Line, Checked, passes, fails, haltOperand, lineAfter}
+use Rattle.trace.specs.Graph.{Reach, here}
 use Rattle.trace.specs.Race.{Conflict, Race}
 use Rattle.trace.specs.Search.{leastBelow, reach?, race?}
-use Rattle.trace.specs.Outcome.{Reply, says, refused, Verdict, clean, race, orElse, raceWith, partner, failureAt, firstFailure, atEnd, orAtEnd, judgement}
-use Rattle.trace.specs.Demands.{KeepsRules, BreaksFirst, NoRaceBefore, graphOf, IsClean, IsRefused, IsRace, Demand2, ExactlyOne}
-use Rattle.trace.proofs.Tests.{by-test, either, lt-or-le, same-or-not, last-or-below, Tests, tests-fails, Least, LeastIs, least-is}
-use Rattle.trace.proofs.Lines.{passes-not-fails, step-row, line-more, fails-later, passes-earlier, graph-all}
+use Rattle.trace.specs.Outcome.{Reply, says, refused, Verdict, clean, race, orElse, raceWith, partner, failureAt, firstFailure, atEnd, orAtEnd, judgement, sizes, orderRoom, judgeChecked, judgeOutcome}
+use Rattle.trace.specs.Demands.{KeepsRules, NoRaceBefore, graphOf, IsClean, IsRefused, IsRace, Demand2, ExactlyOne, JudgeDemand2}
+use Rattle.trace.proofs.Tests.{by-test, either, lt-or-le, same-or-not, last-or-below, tests-fails, LeastIs, least-is}
+use Rattle.trace.proofs.Lines.{passes-not-fails, step-row, line-more, graph-all, kept-not-broken, broken-once, one-row}
 use Rattle.trace.proofs.Conflicts.{conflict-sym}
-use Rattle.trace.proofs.Paths.{Forward}
-use Rattle.trace.proofs.Forward.{graph-forward}
-use Rattle.trace.proofs.Searches.{test-reach, test-race}
-
-module _ (tr : Trace) where
-  -- ---- events that keep the rules, and the first that does not
-
-  kept-not-broken : (m p number : ℕ) → p < m → KeepsRules tr m → BreaksFirst tr p number → ⊥
-  kept-not-broken m p number h k b =
-      passes-not-fails (k .reached)
-      (fails-later haltOperand tr (suc p) m number h (line-more haltOperand tr p (b .line) (b .kept-before) ∙ b .broken))
-
-  broken-once : (p p′ number number′ : ℕ) → BreaksFirst tr p number → BreaksFirst tr p′ number′ → p ≡ p′
-  broken-once p p′ number number′ b b′ =
-      let below : p < p′ → ⊥ = λ h. kept-not-broken p′ p number h (record { line = b′ .line; reached = b′ .kept-before }) b in
-      let above : p′ < p → ⊥ = λ h. kept-not-broken p p′ number′ h (record { line = b .line; reached = b .kept-before }) b′ in
-      omega arith
-
-  one-row : (p number number′ : ℕ) → BreaksFirst tr p number → BreaksFirst tr p number′ → number ≡ number′
-  one-row p number number′ b b′ =
-      let l : b .line ≡ b′ .line = cc (b .kept-before, b′ .kept-before) in
-      let e : step haltOperand tr p (b′ .line) ≡ fails number = rw l at (b .broken) in
-      cc (e, b′ .broken)
+use Rattle.trace.proofs.Searches.{test-reach-graph, test-race-graph}
 
 module _ (tr : Trace) (n : ℕ) where
   abbrev graph : ℕ
   graph = graphOf tr n
-
-  forward : Forward tr graph
-  forward = graph-forward haltOperand tr n
 
   -- ---- what an answer means, and that the computed answer means it
 
@@ -64,7 +40,7 @@ module _ (tr : Trace) (n : ℕ) where
   no-race-more : (t : ℕ) → NoRaceBefore tr graph t → ((s : ℕ) → s < t → race? tr graph s t ≡ false) → NoRaceBefore tr graph (suc t)
   no-race-more t before none-at p q h i r =
       either (last-or-below q t i)
-      (λ e. tests-fails _ (test-race tr graph forward p t) (none-at p (omega arith)) (subst (λ (z : ℕ). Race tr graph p z) e r))
+      (λ e. tests-fails _ (test-race-graph tr n p t) (none-at p (omega arith)) (subst (λ (z : ℕ). Race tr graph p z) e r))
       (λ j. before p q h j r)
 
   decided-race :
@@ -77,9 +53,9 @@ module _ (tr : Trace) (n : ℕ) where
         inside = h;
         before = L .below;
         keeps-rules = k;
-        pair = test-race tr graph forward s t .0 (L .passed);
+        pair = test-race-graph tr n s t .0 (L .passed);
         first = before;
-        earliest = λ p i. tests-fails _ (test-race tr graph forward p t) (L .none-before p i);
+        earliest = λ p i. tests-fails _ (test-race-graph tr n p t) (L .none-before p i);
       }
 
   decided-event :
@@ -121,17 +97,17 @@ module _ (tr : Trace) (n : ℕ) where
 
   connected-up : NoRaceBefore tr graph n → graph ≡ n → (p q : ℕ) → p < q → Conflict tr graph p q → Reach tr graph p q ⊎ Reach tr graph q p
   connected-up calm whole p q h c =
-      by-test (reach? tr graph p q) (λ e. inl (test-reach tr graph forward p q .0 e))
+      by-test (reach? tr graph p q) (λ e. inl (test-reach-graph tr n p q .0 e))
       (λ e.
-      by-test (reach? tr graph q p) (λ f. inr (test-reach tr graph forward q p .0 f))
+      by-test (reach? tr graph q p) (λ f. inr (test-reach-graph tr n q p .0 f))
       (λ f.
       let i = c .second-event in
       absurd
       (calm p q h (omega arith)
       (record {
         conflict = c;
-        not-forth = tests-fails _ (test-reach tr graph forward p q) e;
-        not-back = tests-fails _ (test-reach tr graph forward q p) f;
+        not-forth = tests-fails _ (test-reach-graph tr n p q) e;
+        not-back = tests-fails _ (test-reach-graph tr n q p) f;
       }))))
 
   means-clean : KeepsRules tr n → NoRaceBefore tr graph n → IsClean tr n
@@ -184,18 +160,6 @@ module _ (tr : Trace) (n : ℕ) where
   means-is : (reply : Reply Verdict) → judgement haltOperand tr n ≡ reply → Means reply
   means-is reply e = subst (λ (r : Reply Verdict). Means r) e judgement-means
 
-  -- DEMAND 2.
-  pub demand-2 : Demand2 tr n (judgement haltOperand tr n)
-  demand-2 =
-      record {
-        clean-iff =
-            (λ e. let m = means-is (says clean) e in means-clean (m .0) (m .1), λ c. answer-clean c (judgement haltOperand tr n) judgement-means);
-        refused-iff = λ number p. (means-is (refused number p), λ b. answer-refused number p b (judgement haltOperand tr n) judgement-means);
-        race-iff = λ s t. (means-is (says (race s t)), λ r. answer-race s t r (judgement haltOperand tr n) judgement-means);
-        rows = λ number p e.
-            let b = means-is (refused number p) e .breaks-first in step-row haltOperand tr p number (b .line) (b .broken);
-      }
-
   -- Exactly one of the three holds.
   pub exactly-one : ExactlyOne tr n
   exactly-one =
@@ -218,3 +182,29 @@ module _ (tr : Trace) (n : ℕ) where
 
       both : {s t s′ t′ : ℕ} → _≡_ {A = Reply Verdict} (says (race s′ t′)) (says (race s t)) → (s ≡ s′) × (t ≡ t′)
       both e = (cc, cc)
+
+  -- DEMAND 2.
+  pub demand-2 : Demand2 tr n (judgement haltOperand tr n)
+  demand-2 =
+      record {
+        clean-iff =
+            (λ e. let m = means-is (says clean) e in means-clean (m .0) (m .1), λ c. answer-clean c (judgement haltOperand tr n) judgement-means);
+        refused-iff = λ number p. (means-is (refused number p), λ b. answer-refused number p b (judgement haltOperand tr n) judgement-means);
+        race-iff = λ s t. (means-is (says (race s t)), λ r. answer-race s t r (judgement haltOperand tr n) judgement-means);
+        rows = λ number p e.
+            let b = means-is (refused number p) e .breaks-first in step-row haltOperand tr p number (b .line) (b .broken);
+        exactly-one = exactly-one;
+      }
+
+module _ (kinds tasks operands workspace first second : List ℕ) where
+  demand-2-checked :
+      (c : Checked ℕ) (n : ℕ) → c ≡ passes n
+      → Demand2 (traceOf kinds tasks operands) n (judgeChecked kinds tasks operands workspace first second c .answer)
+  unfolding judgeChecked
+  demand-2-checked (fails number) n e = absurd (passes-not-fails e refl)
+  demand-2-checked (passes m) n e = let same : m ≡ n = cc in rw same (demand-2 (traceOf kinds tasks operands) n)
+
+  -- DEMAND 2 of the judge's outcome, for everything that can be lent.
+  pub judge-demand-2 : JudgeDemand2 kinds tasks operands workspace first second (judgeOutcome kinds tasks operands workspace first second .answer)
+  unfolding judgeOutcome
+  judge-demand-2 = record { past-sizes = λ n e. demand-2-checked (orderRoom first second (sizes kinds tasks operands workspace)) n e }

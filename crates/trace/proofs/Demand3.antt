@@ -2,33 +2,29 @@
 -- keeps all arcs of the task graph, each read sees the same write as in the trace itself, and each location ends with the same last write as there. If it
 -- said race s t, the first t + 1 cells of the two order buffers hold two orders of the events up to t, t included. Each keeps all arcs between those
 -- events. The two are equal at every place but two, side by side, where the first has s, t and the second t, s."
--- The last two declarations are demands 2 and 3 of the judge's outcome, for everything that can be lent. Assumes nothing.
-use Prim.Native.Nat.{ℕ, suc, _<_, _≤_}
-use mathlib.Core.Path.{_≡_, refl, sym, ap, subst, _∙_}
-use mathlib.Core.Bool.{Bool, not, _&&_, _||_}
-use mathlib.Core.List.{List, _∷_, _++_}
+-- The last declaration says it of the judge's outcome, for everything that can be lent. Assumes nothing.
+use Prim.Native.Nat.{ℕ, suc, _<_}
+use mathlib.Core.Path.{_≡_, refl, sym, subst}
+use mathlib.Core.Bool.{false}
+use mathlib.Core.List.{List, _++_}
 use mathlib.Core.Logic.{_⊎_, inl, inr}
-use native.Mathlib.Omega.{arith}
-use lib.Dec.{eqb}
 use lib.ListN.{length, take, drop}
 use lib.Seq.{take-at, drop-at}
 use Rattle.trace.specs.Trace.{Trace, traceOf}
 use Rattle.trace.specs.Line.{Checked, passes, fails, haltOperand}
-use Rattle.trace.specs.Graph.{Reach, here, graphEvents}
-use Rattle.trace.specs.Race.{Race}
+use Rattle.trace.specs.Race.{Race, InD}
 use Rattle.trace.specs.Orders.{Order, KeepsArcs}
-use Rattle.trace.specs.Search.{reach?}
-use Rattle.trace.specs.Outcome.{Reply, says, refused, Verdict, clean, race, judgement, inD?, schedule, sizes, orderRoom, Outcome, firstOrder, secondOrder, judgeChecked, judgeOutcome}
-use Rattle.trace.specs.Demands.{graphOf, SameWrites, Witnesses, Demand2, Demand3, JudgeDemand2, JudgeDemand3}
+use Rattle.trace.specs.Outcome.{says, clean, race, judgement, inD?, schedule, sizes, orderRoom, Outcome, firstOrder, secondOrder, judgeChecked, judgeOutcome}
+use Rattle.trace.specs.Demands.{graphOf, SameWrites, Witnesses, Demand3, JudgeDemand3}
 use Rattle.trace.proofs.Tests.{either, Tests, tests-map, tests-false, test-and, test-or, test-not, test-eq}
-use Rattle.trace.proofs.Lines.{graph-all, passes-not-fails}
+use Rattle.trace.proofs.Lines.{graph-all}
 use Rattle.trace.proofs.Forward.{graph-forward}
 use Rattle.trace.proofs.Paths.{Forward}
 use Rattle.trace.proofs.Searches.{test-reach}
-use Rattle.trace.proofs.Sizes.{sized-first}
+use Rattle.trace.proofs.Sizes.{sized-first, refused-not-says}
 use Rattle.trace.proofs.Demand2.{demand-2}
 use Rattle.trace.proofs.SameWrites.{same-writes}
-use Rattle.trace.proofs.WitnessOrders.{InD, witness-orders, schedule-length}
+use Rattle.trace.proofs.WitnessOrders.{witness-orders, schedule-length}
 
 -- The computed test of D is "the events other than s and t that reach s or t".
 pub test-in-D : (tr : Trace) (graph : ℕ) → Forward tr graph → (s t p : ℕ) → Tests (inD? tr graph s t p) (InD tr graph s t p)
@@ -57,7 +53,7 @@ module _ (tr : Trace) (n : ℕ) where
 
   -- RACE.
   module _ (s t : ℕ) (e : judgement haltOperand tr n ≡ says (race s t)) where
-    not-in-D : (p : ℕ) → (p ≡ s) ⊎ (p ≡ t) → inD? tr graph s t p ≡ Bool.false
+    not-in-D : (p : ℕ) → (p ≡ s) ⊎ (p ≡ t) → inD? tr graph s t p ≡ false
     not-in-D p w = tests-false _ (test-in-D tr graph forward s t p) (λ d. either w (d .not-s) (d .not-t))
 
     pub race-before : (s < t) × (t < n)
@@ -72,6 +68,16 @@ module _ (tr : Trace) (n : ℕ) where
     race-length = schedule-length (inD? tr graph s t) s t (race-before .0) (not-in-D s (inl refl)) (not-in-D t (inr refl))
 
 -- The order buffers hold the two lists, and the rest is as it was.
+module _ (tr : Trace) (n s t : ℕ) (e : judgement haltOperand tr n ≡ says (race s t)) (a b : ℕ) (buffer : List ℕ) where
+  abbrev listed : List ℕ
+  listed = schedule (inD? tr (graphOf tr n) s t) s t a b
+
+  race-taken : take (suc t) (listed ++ drop (suc t) buffer) ≡ listed
+  race-taken = take-at listed (drop (suc t) buffer) (suc t) (race-length tr n s t e a b)
+
+  race-dropped : drop (suc t) (listed ++ drop (suc t) buffer) ≡ drop (suc t) buffer
+  race-dropped = drop-at listed (drop (suc t) buffer) (suc t) (race-length tr n s t e a b)
+
 module _ (tr : Trace) (n : ℕ) (b₁ b₂ : List ℕ) where
   pub demand-3 :
       Demand3 tr n (judgement haltOperand tr n) b₁ b₂ (firstOrder tr (graphOf tr n) (judgement haltOperand tr n) b₁)
@@ -81,18 +87,14 @@ module _ (tr : Trace) (n : ℕ) (b₁ b₂ : List ℕ) where
       record {
         when-clean = clean-same tr n;
         when-race = λ s t e.
-            rw (e, firstOrder, secondOrder, take-at (schedule (inD? tr (graphOf tr n) s t) s t s t) (drop (suc t) b₁) (suc t) (race-length tr n s t e s t), take-at (schedule (inD? tr (graphOf tr n) s t) s t t s) (drop (suc t) b₂) (suc t) (race-length tr n s t e t s))
-            (race-witnesses tr n s t e);
-        unchanged₁ = λ s t e. rw (e, firstOrder) (drop-at (schedule (inD? tr (graphOf tr n) s t) s t s t) (drop (suc t) b₁) (suc t) (race-length tr n s t e s t));
-        unchanged₂ = λ s t e. rw (e, secondOrder) (drop-at (schedule (inD? tr (graphOf tr n) s t) s t t s) (drop (suc t) b₂) (suc t) (race-length tr n s t e t s));
+            rw (e, firstOrder, secondOrder, race-taken tr n s t e s t b₁, race-taken tr n s t e t s b₂) (race-witnesses tr n s t e);
+        unchanged₁ = λ s t e. rw (e, firstOrder) (race-dropped tr n s t e s t b₁);
+        unchanged₂ = λ s t e. rw (e, secondOrder) (race-dropped tr n s t e t s b₂);
       }
 
 module _ (kinds tasks operands workspace first second : List ℕ) where
   abbrev out : Outcome
   out = judgeOutcome kinds tasks operands workspace first second
-
-  refused-not-says : {v : Verdict} (number : ℕ) → refused number 0 ≡ says v → ⊥
-  refused-not-says number e = let z : _≡_ {A = ℕ} 0 1 = cc in omega arith
 
   demand-3-checked :
       (c : Checked ℕ) → ((n : ℕ) → c ≡ passes n → length kinds ≡ n)
@@ -101,24 +103,12 @@ module _ (kinds tasks operands workspace first second : List ℕ) where
   unfolding judgeChecked
   demand-3-checked (fails number) sized =
       record {
-        when-clean = λ e. absurd (refused-not-says number e);
-        when-race = λ s t e. absurd (refused-not-says number e);
+        when-clean = λ e. absurd (refused-not-says refl e);
+        when-race = λ s t e. absurd (refused-not-says refl e);
         unchanged₁ = λ s t e. refl;
         unchanged₂ = λ s t e. refl;
       }
   demand-3-checked (passes n) sized = rw (sized n refl) (demand-3 (traceOf kinds tasks operands) n first second)
-
-  demand-2-checked :
-      (c : Checked ℕ) (n : ℕ) → c ≡ passes n
-      → Demand2 (traceOf kinds tasks operands) n (judgeChecked kinds tasks operands workspace first second c .answer)
-  unfolding judgeChecked
-  demand-2-checked (fails number) n e = absurd (passes-not-fails e refl)
-  demand-2-checked (passes m) n e = let same : m ≡ n = cc in rw same (demand-2 (traceOf kinds tasks operands) n)
-
-  -- DEMAND 2 of the judge's outcome.
-  pub judge-demand-2 : JudgeDemand2 kinds tasks operands workspace first second (out .answer)
-  unfolding judgeOutcome
-  judge-demand-2 = record { past-sizes = λ n e. demand-2-checked (orderRoom first second (sizes kinds tasks operands workspace)) n e }
 
   -- DEMAND 3 of the judge's outcome.
   pub judge-demand-3 : JudgeDemand3 kinds tasks operands (out .answer) first second (out .first) (out .second)

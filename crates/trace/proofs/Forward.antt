@@ -9,6 +9,7 @@ use native.Mathlib.Nat.{lt-of-lt-of-le}
 use Rattle.trace.specs.Trace.{Trace, FORK, JOIN, HALT}
 use Rattle.trace.specs.Line.{Line, passes, lineAfter}
 use Rattle.trace.specs.Graph.{Arc, to-next, to-child, to-join, Reach, here, more, graphEvents}
+use Rattle.trace.specs.Race.{Conflict, Race}
 use Rattle.trace.proofs.Tests.{either, last-or-below}
 use Rattle.trace.proofs.Paths.{Forward, arc-inside, reach-inside}
 use Rattle.trace.proofs.Lines.{graph-kept}
@@ -32,13 +33,13 @@ two-events n p q h i older second first both =
     (λ e. either (last-or-below q n i) (both e) (first e))
     (λ j. either (last-or-below q n i) (second j) (older j))
 
-module _ (rule : Line → ℕ) (tr : Trace) where
+module _ (haltRule : Line → ℕ) (tr : Trace) where
   module _ {n : ℕ} {left paused used : List ℕ} {group last : ℕ → ℕ}
-      (run : Run rule tr n left (tr .task n ∷ paused) used group last) (before : InOrder tr n left (tr .task n ∷ paused) used) where
+      (run : Run haltRule tr n left (tr .task n ∷ paused) used group last) (before : InOrder tr n left (tr .task n ∷ paused) used) where
     fork-first-next : (tr .kind n ≡ FORK → In (tr .operand n) used → ⊥) → (p q : ℕ) → p < suc n → q < suc n → tr .kind p ≡ FORK →
         tr .task q ≡ tr .operand p → p < q
     fork-first-next new p q h i k e =
-        let u = used-numbers rule tr run in
+        let u = used-numbers haltRule tr run in
         let fresh : p ≡ n → In (tr .task q) used → ⊥ = λ a j. new (ap (tr .kind) (sym a) ∙ k) (in-eq used (ap (tr .operand) (sym a) ∙ sym e) j) in
         two-events n p q h i
         (λ a b. before .fork-first p q a b k e)
@@ -70,7 +71,7 @@ module _ (rule : Line → ℕ) (tr : Trace) where
           join-last = join-last-next;
         }
 
-  in-order : {n : ℕ} {left active used : List ℕ} {group last : ℕ → ℕ} → Run rule tr n left active used group last → InOrder tr n left active used
+  in-order : {n : ℕ} {left active used : List ℕ} {group last : ℕ → ℕ} → Run haltRule tr n left active used group last → InOrder tr n left active used
   in-order start =
       record {
         joined-out = λ q h. absurd (omega arith);
@@ -88,10 +89,10 @@ module _ (rule : Line → ℕ) (tr : Trace) where
       let before = in-order run in
       record {
         joined-out = λ q h j i. either (last-or-below q n h)
-            (λ e. joined-gone (tr .operand n) left (tr .task n ∷ paused) (distinct-stacks rule tr run) (tr .operand q) i (ap (tr .operand) e))
+            (λ e. joined-gone (tr .operand n) left (tr .task n ∷ paused) (distinct-stacks haltRule tr run) (tr .operand q) i (ap (tr .operand) e))
             (λ h′. before .joined-out q h′ j (either i (λ l. inl l) (λ l. inr (inr l))));
         joined-used = λ q h j. either (last-or-below q n h)
-            (λ e. used-numbers rule tr run .of-left (tr .operand q) (inl (ap (tr .operand) e)))
+            (λ e. used-numbers haltRule tr run .of-left (tr .operand q) (inl (ap (tr .operand) e)))
             (λ h′. before .joined-used q h′ j);
         fork-first = fork-first-next run before (λ f. absurd (omega arith));
         join-last = join-last-next run before;
@@ -101,18 +102,18 @@ module _ (rule : Line → ℕ) (tr : Trace) where
       (λ y i. halted-in-line (tr .task n) left paused y) (λ y i. i)
 
   -- The arcs among the events of a run lead forward.
-  pub run-forward : {n : ℕ} {left active used : List ℕ} {group last : ℕ → ℕ} → Run rule tr n left active used group last → Forward tr n
+  pub run-forward : {n : ℕ} {left active used : List ℕ} {group last : ℕ → ℕ} → Run haltRule tr n left active used group last → Forward tr n
   run-forward run p q (to-next h i a b) = h
   run-forward run p q (to-child h i a b c) = in-order run .fork-first p q h i a b
   run-forward run p q (to-join h i a b c) = in-order run .join-last p q h i a b c
 
   -- Where the first n events keep the rules, the arcs among them lead forward.
-  pub forward : (n : ℕ) (line : Line) → lineAfter rule tr n ≡ passes line → Forward tr n
-  forward n line e = run-forward (run-of rule tr n line e .run)
+  pub forward : (n : ℕ) (line : Line) → lineAfter haltRule tr n ≡ passes line → Forward tr n
+  forward n line e = run-forward (run-of haltRule tr n line e .run)
 
   -- The arcs of the graph of every trace lead forward.
-  pub graph-forward : (n : ℕ) → Forward tr (graphEvents rule tr n)
-  graph-forward n = let kept = graph-kept rule tr n in forward (graphEvents rule tr n) (kept .0) (kept .1)
+  pub graph-forward : (n : ℕ) → Forward tr (graphEvents haltRule tr n)
+  graph-forward n = let kept = graph-kept haltRule tr n in forward (graphEvents haltRule tr n) (kept .0) (kept .1)
 
 -- ---- the graph of fewer events
 
@@ -145,3 +146,47 @@ module _ {tr : Trace} {m n : ℕ} (fewer : m ≤ n) where
   -- The paths among the first m events are those of the first n events that end there.
   pub reach-prefix : Forward tr n → (p q : ℕ) → Reach tr m p q ↔ (Reach tr n p q × (q < m))
   reach-prefix forward p q = (λ path. (reach-more path, reach-inside path .1), λ w. reach-fewer forward (w .0) (w .1))
+
+  conflict-more : {p q : ℕ} → Conflict tr m p q → Conflict tr n p q
+  conflict-more c =
+      record {
+        first-event = lt-of-lt-of-le (c .first-event) fewer;
+        second-event = lt-of-lt-of-le (c .second-event) fewer;
+        first-access = c .first-access;
+        second-access = c .second-access;
+        one-location = c .one-location;
+        kinds-conflict = c .kinds-conflict;
+      }
+
+  conflict-fewer : {p q : ℕ} → Conflict tr n p q → p < m → q < m → Conflict tr m p q
+  conflict-fewer c h i =
+      record {
+        first-event = h;
+        second-event = i;
+        first-access = c .first-access;
+        second-access = c .second-access;
+        one-location = c .one-location;
+        kinds-conflict = c .kinds-conflict;
+      }
+
+  -- The races among the first m events are those of the first n events whose both accesses are there.
+  pub race-prefix : Forward tr n → (p q : ℕ) → Race tr m p q ↔ (Race tr n p q × (p < m) × (q < m))
+  race-prefix forward p q = (
+    λ r.
+        let h = r .conflict .first-event in
+        let i = r .conflict .second-event in (
+          record {
+            conflict = conflict-more (r .conflict);
+            not-forth = λ path. r .not-forth (reach-fewer forward path i);
+            not-back = λ path. r .not-back (reach-fewer forward path h);
+          },
+          h,
+          i,
+        ),
+    λ w.
+        record {
+          conflict = conflict-fewer (w .0 .conflict) (w .1) (w .2);
+          not-forth = λ path. w .0 .not-forth (reach-more path);
+          not-back = λ path. w .0 .not-back (reach-more path);
+        },
+  )

@@ -1,6 +1,6 @@
 -- One task remembered for a set of events: its group is the leftmost in the line that has one of them. The tasks left of the running one are a stack, so
 -- the leftmost group stays there longest, and it alone tells whether some event of the set is unordered with what comes next (`AccessLemma`). Assumes nothing.
-use Prim.Native.Nat.{ℕ, zero, suc, _+_, _<_, _≤_}
+use Prim.Native.Nat.{ℕ, suc, _<_}
 use mathlib.Core.Path.{_≡_, refl, sym, ap, subst, _∙_}
 use mathlib.Core.List.{List, [], _∷_}
 use mathlib.Core.Logic.{_⊎_, inl, inr, _≢_}
@@ -9,7 +9,7 @@ use Rattle.trace.specs.Trace.{Trace}
 use Rattle.trace.specs.Line.{Line}
 use Rattle.trace.proofs.Tests.{either, same-or-not, last-or-below}
 use Rattle.trace.proofs.Stacks.{In, in-eq, rename, rename-same, rename-other}
-use Rattle.trace.proofs.Run.{InLine, DistinctStacks, Run, used-numbers, distinct-stacks, groups, zero-active, event-in-line, running-own}
+use Rattle.trace.proofs.Run.{InLine, DistinctStacks, Run, used-numbers, distinct-stacks, zero-active, event-in-line, running-own}
 
 -- ---- where two tasks stand in the line
 
@@ -98,7 +98,7 @@ pub record Remembers (tr : Trace) (S : ℕ → Type 0) (n : ℕ) (left active : 
   pub leftmost : (p : ℕ) → p < n → S p → AtLeft left active (group (tr .task p)) (group y)
   pub holder : (group y ≡ 0) ⊎ ((p : ℕ) × (p < n) × S p × (group (tr .task p) ≡ group y))
 
-module _ (rule : Line → ℕ) (tr : Trace) (S : ℕ → Type 0) where
+module _ (haltRule : Line → ℕ) (tr : Trace) (S : ℕ → Type 0) where
   -- Before the first event task 0 serves.
   pub remembers-start : (left active : List ℕ) (group : ℕ → ℕ) → group 0 ≡ 0 → Remembers tr S 0 left active group 0
   remembers-start left active group e = record { leftmost = λ p h. absurd (omega arith); holder = inl e }
@@ -129,12 +129,12 @@ module _ (rule : Line → ℕ) (tr : Trace) (S : ℕ → Type 0) where
       }
 
   -- Event n is of the running task, with the rules kept before it.
-  module _ {n : ℕ} {left paused used : List ℕ} {group last : ℕ → ℕ} (run : Run rule tr n left (tr .task n ∷ paused) used group last) (y : ℕ)
+  module _ {n : ℕ} {left paused used : List ℕ} {group last : ℕ → ℕ} (run : Run haltRule tr n left (tr .task n ∷ paused) used group last) (y : ℕ)
       (r : Remembers tr S n left (tr .task n ∷ paused) group y) where
     pub group-in-line : InLine left (tr .task n ∷ paused) (group y)
     group-in-line =
-        either (r .holder) (λ e. subst (λ (z : ℕ). InLine left (tr .task n ∷ paused) z) (sym e) (inl (zero-active rule tr run)))
-        (λ w. subst (λ (z : ℕ). InLine left (tr .task n ∷ paused) z) (w .3) (event-in-line rule tr run (w .0) (w .1)))
+        either (r .holder) (λ e. subst (λ (z : ℕ). InLine left (tr .task n ∷ paused) z) (sym e) (inl (zero-active haltRule tr run)))
+        (λ w. subst (λ (z : ℕ). InLine left (tr .task n ∷ paused) z) (w .3) (event-in-line haltRule tr run (w .0) (w .1)))
 
     pub remembers-other : (S n → ⊥) → Remembers tr S (suc n) left (tr .task n ∷ paused) group y
     remembers-other out =
@@ -142,7 +142,7 @@ module _ (rule : Line → ℕ) (tr : Trace) (S : ℕ → Type 0) where
 
     pub remembers-fork : (S n → ⊥) → (In (tr .operand n) used → ⊥) → Remembers tr S (suc n) left (tr .operand n ∷ tr .task n ∷ paused) group y
     remembers-fork out new =
-        let u = used-numbers rule tr run in
+        let u = used-numbers haltRule tr run in
         remembers-next n left (tr .task n ∷ paused) left (tr .operand n ∷ tr .task n ∷ paused) group group y out (λ u w e. e) (λ e. e)
         (λ p h a.
         at-left-fork left (tr .task n ∷ paused) (group (tr .task p)) (group y) (tr .operand n)
@@ -153,18 +153,18 @@ module _ (rule : Line → ℕ) (tr : Trace) (S : ℕ → Type 0) where
     remembers-halt out =
         remembers-next n left (tr .task n ∷ paused) (tr .task n ∷ left) paused group group y out (λ u w e. e) (λ e. e)
         (λ p h a.
-        at-left-halt left paused (group (tr .task p)) (group y) (tr .task n) (distinct-stacks rule tr run .of-active .0) group-in-line a)
+        at-left-halt left paused (group (tr .task p)) (group y) (tr .task n) (distinct-stacks haltRule tr run .of-active .0) group-in-line a)
         r
 
     -- An event of S, where y's group has halted: y stays.
     pub remembers-stays : In (group y) left → Remembers tr S (suc n) left (tr .task n ∷ paused) group y
     remembers-stays i =
-        let d = distinct-stacks rule tr run in
+        let d = distinct-stacks haltRule tr run in
         record {
           leftmost = λ p h m.
               either (last-or-below p n h)
               (λ e.
-              rw (running-own rule tr run p e)
+              rw (running-own haltRule tr run p e)
               (at-left-across left (tr .task n ∷ paused) (tr .task n) (group y) (λ j. d .disjoint (group y) i j)
               (λ j. d .disjoint (tr .task n) j (inl refl))))
               (λ k. r .leftmost p k m);
@@ -174,31 +174,32 @@ module _ (rule : Line → ℕ) (tr : Trace) (S : ℕ → Type 0) where
     -- An event of S, where y's group is active: the running task takes y's place.
     pub remembers-moves : S n → (In (group y) left → ⊥) → Remembers tr S (suc n) left (tr .task n ∷ paused) group (tr .task n)
     remembers-moves member out =
-        let d = distinct-stacks rule tr run in
-        let self = running-own rule tr run n refl in
+        let d = distinct-stacks haltRule tr run in
+        let self = running-own haltRule tr run n refl in
         record {
           leftmost = λ p h m.
               rw self
               (either (last-or-below p n h)
-              (λ e. rw (running-own rule tr run p e) (at-left-self left (tr .task n ∷ paused) (tr .task n)))
+              (λ e. rw (running-own haltRule tr run p e) (at-left-self left (tr .task n ∷ paused) (tr .task n)))
               (λ k.
               let active : In (group (tr .task p)) left → ⊥ = λ i. out (tails-whole (group (tr .task p)) (group y) left (r .leftmost p k m .of-left) i) in
               at-left-running left paused (group (tr .task p)) (tr .task n) (d .of-active .0)
-              (either (event-in-line rule tr run p k) (λ i. i) (λ i. absurd (active i))) active));
+              (either (event-in-line haltRule tr run p k) (λ i. i) (λ i. absurd (active i))) active));
           holder = inr (n, omega arith, member, refl);
         }
 
   pub remembers-join :
-      {n : ℕ} {left paused used : List ℕ} {group last : ℕ → ℕ} → Run rule tr n (tr .operand n ∷ left) (tr .task n ∷ paused) used group last → (y : ℕ)
+      {n : ℕ} {left paused used : List ℕ} {group last : ℕ → ℕ} → Run haltRule tr n (tr .operand n ∷ left) (tr .task n ∷ paused) used group last
+      → (y : ℕ)
       → Remembers tr S n (tr .operand n ∷ left) (tr .task n ∷ paused) group y
       → (S n → ⊥)
       → Remembers tr S (suc n) left (tr .task n ∷ paused) (λ t. rename (tr .operand n) (tr .task n) (group t)) y
   remembers-join {n = n} {left = left} {paused = paused} {group = group} run y r out =
       let v = tr .operand n in
       let x = tr .task n in
-      let d = distinct-stacks rule tr run in
-      let zero-out : 0 ≢ v = λ e. d .disjoint v (inl refl) (in-eq (x ∷ paused) (sym e) (zero-active rule tr run)) in
+      let d = distinct-stacks haltRule tr run in
+      let zero-out : 0 ≢ v = λ e. d .disjoint v (inl refl) (in-eq (x ∷ paused) (sym e) (zero-active haltRule tr run)) in
       remembers-next n (v ∷ left) (x ∷ paused) left (x ∷ paused) group (λ t. rename v x (group t)) y out (λ u w e. ap (rename v x) e)
       (λ e. rename-other v x (group y) (λ q. zero-out (sym e ∙ q)) ∙ e)
-      (λ p h a. at-left-join left paused (group (tr .task p)) (group y) v x d (event-in-line rule tr run p h) a)
+      (λ p h a. at-left-join left paused (group (tr .task p)) (group y) v x d (event-in-line haltRule tr run p h) a)
       r

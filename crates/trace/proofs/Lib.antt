@@ -1,5 +1,5 @@
--- The theory of the definitions in `specs/`, with no code in sight. The headline theorems stand in Demand2, Demand3, PairMatters, OrderLemma and
--- AccessLemma; Table holds the computed † runs.
+-- The theory of the definitions in `specs/`, with no code in sight. The headline theorems stand in Demand1, Demand2, Demand3, OrderingCall, LaterEvents,
+-- PairMatters, OrderLemma and AccessLemma; Table holds the computed † runs.
 pub mod Tests
 pub mod Lists
 pub mod Stacks
@@ -10,6 +10,7 @@ pub mod Run
 pub mod TwoStacks
 pub mod Forward
 pub mod Tips
+pub mod TaskZero
 pub mod OrderLemma
 pub mod Leftmost
 pub mod AccessLemma
@@ -17,10 +18,13 @@ pub mod Congruence
 pub mod OrderFacts
 pub mod Conflicts
 pub mod Searches
+pub mod Sizes
 pub mod Demand2
+pub mod OrderingCall
 pub mod SameWrites
 pub mod WitnessOrders
-pub mod PairMatters
-pub mod Sizes
 pub mod Demand3
+pub mod Demand1
+pub mod PairMatters
+pub mod LaterEvents
 pub mod Table

@@ -1,7 +1,7 @@
 -- Laws of the list functions of `Orders`: how often a number stands in a list, the place of its first occurrence, what stands before it, the
--- selection of what passes a test, the latest entry that passes one, and lists that count up. They hold of all lists of numbers and say nothing of
--- traces. Assumes nothing.
-use Prim.Native.Nat.{ℕ, zero, suc, _+_, _<_, _≤_}
+-- selection of what passes a test, the latest entry that passes one, lists that count up, and lists whose first entries are made 0. They hold of all
+-- lists of numbers and say nothing of traces. Assumes nothing.
+use Prim.Native.Nat.{ℕ, zero, suc, _+_, _-_, _<_, _≤_}
 use native.Mathlib.Nat.{add-zero, zero-add}
 use native.Mathlib.Omega.{arith}
 use mathlib.Core.Path.{_≡_, refl, sym, ap, _∙_}
@@ -10,20 +10,21 @@ use mathlib.Core.Bool.{Bool, true, false, true≢false}
 use mathlib.Core.List.{List, [], _∷_, _++_, append-nil}
 use mathlib.Core.Option.{Option, none, some, Option·none-ne-some, Option·some-injective}
 use lib.Dec.{eqb}
-use lib.ListN.{length}
+use lib.ListN.{length, getD, replicate, drop, length-append, length-replicate, length-drop, getD-replicate, List·getD-append}
+use lib.Seq.{getD-append-add, getD-drop}
 use borrow.Author.Tests.{eqb-true, eqb-false, eq-eqb, ne-eqb}
-use Rattle.trace.specs.Orders.{one, occurrences, place, countUp, positions, select, before, orThis, latest}
+use Rattle.trace.specs.Orders.{oneIf, occurrences, place, countUp, positions, select, before, orThis, latest}
 use Rattle.trace.proofs.Tests.{by-test, either, by-option, same-or-not, lt-or-le}
 
 -- ---- how often a number stands in a list
 
-pub one-same : (x p : ℕ) → x ≡ p → one x p ≡ 1
-unfolding one
-one-same x p e = rw (eq-eqb x p e)
+pub oneIf-same : (x p : ℕ) → x ≡ p → oneIf x p ≡ 1
+unfolding oneIf
+oneIf-same x p e = rw (eq-eqb x p e)
 
-pub one-other : (x p : ℕ) → x ≢ p → one x p ≡ 0
-unfolding one
-one-other x p d = rw (ne-eqb x p d)
+pub oneIf-other : (x p : ℕ) → x ≢ p → oneIf x p ≡ 0
+unfolding oneIf
+oneIf-other x p d = rw (ne-eqb x p d)
 
 pub occurrences-append : (p : ℕ) (xs ys : List ℕ) → occurrences p (xs ++ ys) ≡ occurrences p xs + occurrences p ys
 occurrences-append p [] ys = omega arith
@@ -41,20 +42,20 @@ pub place-lt-length : (p : ℕ) (xs : List ℕ) → 0 < occurrences p xs → pla
 place-lt-length p [] h = omega arith
 place-lt-length p (x ∷ xs) h =
     either (same-or-not x p) (λ e. omega (arith, place-here p x xs e))
-    (λ d. omega (arith, place-there p x xs d, place-lt-length p xs (omega (arith, one-other x p d))))
+    (λ d. omega (arith, place-there p x xs d, place-lt-length p xs (omega (arith, oneIf-other x p d))))
 
 pub place-append-left : (p : ℕ) (xs ys : List ℕ) → 0 < occurrences p xs → place p (xs ++ ys) ≡ place p xs
 place-append-left p [] ys h = omega arith
 place-append-left p (x ∷ xs) ys h =
     either (same-or-not x p) (λ e. omega (arith, place-here p x xs e, place-here p x (xs ++ ys) e))
     (λ d.
-    let rest = place-append-left p xs ys (omega (arith, one-other x p d)) in
+    let rest = place-append-left p xs ys (omega (arith, oneIf-other x p d)) in
     omega (arith, place-there p x xs d, place-there p x (xs ++ ys) d))
 
 pub place-append-right : (p : ℕ) (xs ys : List ℕ) → occurrences p xs ≡ 0 → place p (xs ++ ys) ≡ length xs + place p ys
 place-append-right p [] ys h = omega arith
 place-append-right p (x ∷ xs) ys h =
-    either (same-or-not x p) (λ e. omega (arith, one-same x p e))
+    either (same-or-not x p) (λ e. omega (arith, oneIf-same x p e))
     (λ d. omega (arith, place-there p x (xs ++ ys) d, place-append-right p xs ys (omega arith)))
 
 -- Two numbers at one place are one, if one of them stands in the list.
@@ -66,7 +67,7 @@ place-injective p q (x ∷ xs) h e =
     (λ dp.
     let there = place-there p x xs dp in
     either (same-or-not x q) (λ eq. absurd (omega (arith, place-here q x xs eq)))
-    (λ dq. place-injective p q xs (omega (arith, one-other x p dp)) (omega (arith, place-there q x xs dq))))
+    (λ dq. place-injective p q xs (omega (arith, oneIf-other x p dp)) (omega (arith, place-there q x xs dq))))
 
 -- ---- what stands before a number
 
@@ -77,10 +78,10 @@ place-lt-of-before p r (x ∷ xs) h =
     by-test (eqb x r) (λ e. let h′ = rw e at h in absurd (omega arith))
     (λ e.
     let d = eqb-false x r e in
-    let h′ : 0 < one x p + occurrences p (before r xs) = rw e at h in
+    let h′ : 0 < oneIf x p + occurrences p (before r xs) = rw e at h in
     either (same-or-not x p) (λ same. omega (arith, place-here p x xs same, place-there r x xs d))
     (λ other.
-    let rest = place-lt-of-before p r xs (omega (arith, one-other x p other)) in
+    let rest = place-lt-of-before p r xs (omega (arith, oneIf-other x p other)) in
     omega (arith, place-there p x xs other, place-there r x xs d)))
 
 -- What has a lower place than r stands before the first r.
@@ -90,7 +91,7 @@ before-of-place-lt p r (x ∷ xs) h =
     by-test (eqb x r) (λ e. absurd (omega (arith, place-here r x xs (eqb-true x r e))))
     (λ e.
     rw e
-    (either (same-or-not x p) (λ same. omega (arith, one-same x p same))
+    (either (same-or-not x p) (λ same. omega (arith, oneIf-same x p same))
     (λ other.
     let lower = place-there p x xs other in
     let upper = place-there r x xs (eqb-false x r e) in
@@ -107,19 +108,19 @@ place-before p r [] h = omega arith
 place-before p r (x ∷ xs) h =
     by-test (eqb x r) (λ e. let h′ = rw e at h in absurd (omega arith))
     (λ e.
-    let h′ : 0 < one x p + occurrences p (before r xs) = rw e at h in
+    let h′ : 0 < oneIf x p + occurrences p (before r xs) = rw e at h in
     rw e
     (either (same-or-not x p) (λ same. place-here p x (before r xs) same ∙ sym (place-here p x xs same))
     (λ other.
     place-there p x (before r xs) other
-    ∙ ap suc (place-before p r xs (omega (arith, one-other x p other)))
+    ∙ ap suc (place-before p r xs (omega (arith, oneIf-other x p other)))
     ∙ sym (place-there p x xs other))))
 
 -- Before an r that stands after xs and not in it.
 pub before-append : (r : ℕ) (xs ys : List ℕ) → occurrences r xs ≡ 0 → before r (xs ++ ys) ≡ xs ++ before r ys
 before-append r [] ys h = refl
 before-append r (x ∷ xs) ys h =
-    by-test (eqb x r) (λ e. absurd (omega (arith, one-same x r (eqb-true x r e))))
+    by-test (eqb x r) (λ e. absurd (omega (arith, oneIf-same x r (eqb-true x r e))))
     (λ e. rw e (ap {B = List ℕ} (λ (z : List ℕ). x ∷ z) (before-append r xs ys (omega arith))))
 
 -- ---- the selection of what passes a test
@@ -132,13 +133,13 @@ pub occurrences-select-passed :
 occurrences-select-passed test p [] h = refl
 occurrences-select-passed test p (x ∷ xs) h =
     let rest = occurrences-select-passed test p xs h in
-    by-test (test x) (λ e. rw e (omega arith)) (λ e. rw e (omega (arith, one-other x p (passed-or-other test x p e h))))
+    by-test (test x) (λ e. rw e (omega arith)) (λ e. rw e (omega (arith, oneIf-other x p (passed-or-other test x p e h))))
 
 pub occurrences-select-failed : (test : ℕ → Bool) (p : ℕ) (xs : List ℕ) → test p ≡ false → occurrences p (select test xs) ≡ 0
 occurrences-select-failed test p [] h = refl
 occurrences-select-failed test p (x ∷ xs) h =
     let rest = occurrences-select-failed test p xs h in
-    by-test (test x) (λ e. rw e (omega (arith, one-other x p (λ q. passed-or-other test p x h e (sym q))))) (λ e. rw e rest)
+    by-test (test x) (λ e. rw e (omega (arith, oneIf-other x p (λ q. passed-or-other test p x h e (sym q))))) (λ e. rw e rest)
 
 pub occurrences-select-le : (test : ℕ → Bool) (p : ℕ) (xs : List ℕ) → occurrences p (select test xs) ≤ occurrences p xs
 occurrences-select-le test p xs =
@@ -164,6 +165,11 @@ select-append test (x ∷ xs) ys =
     by-test (test x) (λ e. rw e (ap {B = List ℕ} (λ (z : List ℕ). x ∷ z) (select-append test xs ys)))
     (λ e. rw e (select-append test xs ys))
 
+-- Two tests that agree select the same.
+pub select-same : (test test′ : ℕ → Bool) → ((x : ℕ) → test x ≡ test′ x) → (xs : List ℕ) → select test xs ≡ select test′ xs
+select-same test test′ agree [] = refl
+select-same test test′ agree (x ∷ xs) = rw (agree x, select-same test test′ agree xs)
+
 -- ---- the latest entry that passes a test
 
 -- Where there is no latest entry that passes, no entry passes.
@@ -176,7 +182,7 @@ failed-of-latest-none test (x ∷ xs) h p c =
     by-test (test x) (λ passed. absurd (Option·none-ne-some x (sym (rw (latest, e, passed) at h))))
     (λ failed.
     either (same-or-not x p) (λ same. rw same at failed)
-    (λ other. failed-of-latest-none test xs e p (omega (arith, one-other x p other)))))
+    (λ other. failed-of-latest-none test xs e p (omega (arith, oneIf-other x p other)))))
     (λ y e. absurd (Option·none-ne-some y (sym (rw (latest, e) at h))))
 
 -- The latest entry that passes is an entry, and passes.
@@ -188,7 +194,7 @@ latest-passed test (x ∷ xs) w h =
     by-test (test x)
     (λ passed.
     let q : x ≡ w = Option·some-injective x w (rw (latest, e, passed) at h) in
-    (rw q at passed, omega (arith, one-same x w q)))
+    (rw q at passed, omega (arith, oneIf-same x w q)))
     (λ failed. absurd (Option·none-ne-some w (rw (latest, e, failed) at h))))
     (λ y e.
     let q : y ≡ w = Option·some-injective y w (rw (latest, e) at h) in
@@ -204,15 +210,15 @@ place-le-latest test (x ∷ xs) w p once h passed c =
     by-option (latest test xs)
     (λ e.
     either (same-or-not x p) (λ same. omega (arith, place-here p x xs same))
-    (λ other. absurd (true≢false (sym passed ∙ failed-of-latest-none test xs e p (omega (arith, one-other x p other))))))
+    (λ other. absurd (true≢false (sym passed ∙ failed-of-latest-none test xs e p (omega (arith, oneIf-other x p other))))))
     (λ y e.
     let q : y ≡ w = Option·some-injective y w (rw (latest, e) at h) in
     let e′ = rw q at e in
     let found = latest-passed test xs w e′ in
-    let later : x ≢ w = λ d. omega (arith, once w, one-same x w d) in
+    let later : x ≢ w = λ d. omega (arith, once w, oneIf-same x w d) in
     either (same-or-not x p) (λ same. omega (arith, place-here p x xs same))
     (λ other.
-    let rest = place-le-latest test xs w p (λ r. omega (arith, once r)) e′ passed (omega (arith, one-other x p other)) in
+    let rest = place-le-latest test xs w p (λ r. omega (arith, once r)) e′ passed (omega (arith, oneIf-other x p other)) in
     omega (arith, place-there p x xs other, place-there w x xs later)))
 
 -- w is the last entry that passes the test.
@@ -301,30 +307,30 @@ rising-place p q [] rising less hp hq = omega arith
 rising-place p q (x ∷ xs) rising less hp hq =
     either (same-or-not x p) (λ e. omega (arith, place-here p x xs e, place-there q x xs (λ d. omega arith)))
     (λ d.
-    let hp′ : 0 < occurrences p xs = omega (arith, one-other x p d) in
+    let hp′ : 0 < occurrences p xs = omega (arith, oneIf-other x p d) in
     let lower : x < p = rising .0 p hp′ in
     let dq : x ≢ q = λ e. omega arith in
-    let hq′ : 0 < occurrences q xs = omega (arith, one-other x q dq) in
+    let hq′ : 0 < occurrences q xs = omega (arith, oneIf-other x q dq) in
     let rest = rising-place p q xs (rising .1) less hp′ hq′ in
     omega (arith, place-there p x xs d, place-there q x xs dq))
 
 none-below-head : (x y : ℕ) (ys : List ℕ) → Rising (y ∷ ys) → x < y → occurrences x (y ∷ ys) ≡ 0
 none-below-head x y ys rising less =
     either (lt-or-le 0 (occurrences x ys)) (λ h. absurd (omega (arith, rising .0 x h)))
-    (λ h. omega (arith, one-other y x (λ e. omega arith)))
+    (λ h. omega (arith, oneIf-other y x (λ e. omega arith)))
 
 -- Two rising lists that have the same numbers are equal.
 pub rising-unique :
     (xs ys : List ℕ) → Rising xs → Rising ys → ((p : ℕ) → occurrences p xs ≡ occurrences p ys) → xs ≡ ys
 rising-unique [] [] risingˣ risingʸ h = refl
-rising-unique [] (y ∷ ys) risingˣ risingʸ h = absurd (omega (arith, h y, one-same y y refl))
-rising-unique (x ∷ xs) [] risingˣ risingʸ h = absurd (omega (arith, h x, one-same x x refl))
+rising-unique [] (y ∷ ys) risingˣ risingʸ h = absurd (omega (arith, h y, oneIf-same y y refl))
+rising-unique (x ∷ xs) [] risingˣ risingʸ h = absurd (omega (arith, h x, oneIf-same x x refl))
 rising-unique (x ∷ xs) (y ∷ ys) risingˣ risingʸ h =
-    let not-less : x < y → ⊥ = λ l. omega (arith, none-below-head x y ys risingʸ l, h x, one-same x x refl) in
-    let not-more : y < x → ⊥ = λ l. omega (arith, none-below-head y x xs risingˣ l, h y, one-same y y refl) in
+    let not-less : x < y → ⊥ = λ l. omega (arith, none-below-head x y ys risingʸ l, h x, oneIf-same x x refl) in
+    let not-more : y < x → ⊥ = λ l. omega (arith, none-below-head y x xs risingˣ l, h y, oneIf-same y y refl) in
     let heads : x ≡ y = omega arith in
     let tails : xs ≡ ys =
-    rising-unique xs ys (risingˣ .1) (risingʸ .1) (λ p. omega (arith, h p, ap (λ (z : ℕ). one z p) heads)) in
+    rising-unique xs ys (risingˣ .1) (risingʸ .1) (λ p. omega (arith, h p, ap (λ (z : ℕ). oneIf z p) heads)) in
     cc
 
 -- In this list, those that pass the test stand in the order of their numbers.
@@ -341,14 +347,14 @@ rising-cut test (x ∷ xs) once ordered =
     by-test (test x) (λ e. rw e (least e, rest)) (λ e. rw e rest)
   where
     not-again : (y : ℕ) → 0 < occurrences y xs → x ≢ y
-    not-again y c e = omega (arith, once y, one-same x y e)
+    not-again y c e = omega (arith, once y, oneIf-same x y e)
 
     least : test x ≡ true → (y : ℕ) → 0 < occurrences y (select test xs) → x < y
     least e y c =
         let inside : 0 < occurrences y xs = omega (arith, occurrences-select-le test y xs) in
         either (lt-or-le y x)
         (λ l.
-        let earlier = ordered y x (passed-of-select test y xs c) e (omega arith) (omega (arith, one-same x x refl)) l in
+        let earlier = ordered y x (passed-of-select test y xs c) e (omega arith) (omega (arith, oneIf-same x x refl)) l in
         absurd (omega (arith, place-here x x xs refl)))
         (λ l. omega (arith, not-again y inside))
 
@@ -365,6 +371,28 @@ cut-unique test xs ys same once ordered rising =
     rising-unique (select test xs) (select test ys) (rising-cut test xs once ordered) (rising-select test ys rising)
     (occurrences-select-same test xs ys same)
 
+-- ---- a list with its first m entries made 0
+
+module _ (m : ℕ) (xs : List ℕ) where
+  pub length-zeros-drop : m ≤ length xs → length (replicate m 0 ++ drop m xs) ≡ length xs
+  length-zeros-drop h = simp (length-append, length-replicate, length-drop) (omega arith)
+
+  -- Those are 0,
+  pub getD-zeros-drop-below : (i : ℕ) → i < m → getD (replicate m 0 ++ drop m xs) i 0 ≡ 0
+  getD-zeros-drop-below i h =
+      let inside : i < length (replicate {A = ℕ} m 0) = rw length-replicate h in
+      List·getD-append (replicate m 0) (drop m xs) 0 i inside ∙ getD-replicate m i 0 0 h
+
+  -- and the others are unchanged.
+  pub getD-zeros-drop-beyond : (i : ℕ) → m ≤ i → getD (replicate m 0 ++ drop m xs) i 0 ≡ getD xs i 0
+  getD-zeros-drop-beyond i h =
+      let e : i ≡ length (replicate {A = ℕ} m 0) + (i - m) = rw length-replicate (omega arith) in
+      let d : m + (i - m) ≡ i = omega arith in
+      ap (λ (j : ℕ). getD (replicate m 0 ++ drop m xs) j 0) e
+      ∙ getD-append-add (replicate m 0) (drop m xs) (i - m) 0
+      ∙ getD-drop m xs (i - m) 0
+      ∙ ap (λ (j : ℕ). getD xs j 0) d
+
 -- ---- lists that count up
 
 pub length-countUp : (k m : ℕ) → length (countUp k m) ≡ m
@@ -374,18 +402,18 @@ length-countUp k (suc m) = ap suc (length-countUp (suc k) m)
 pub occurrences-countUp-below : (p k m : ℕ) → p < k → occurrences p (countUp k m) ≡ 0
 occurrences-countUp-below p k zero h = refl
 occurrences-countUp-below p k (suc m) h =
-    omega (arith, one-other k p (λ e. omega arith), occurrences-countUp-below p (suc k) m (omega arith))
+    omega (arith, oneIf-other k p (λ e. omega arith), occurrences-countUp-below p (suc k) m (omega arith))
 
 pub occurrences-countUp-inside : (p k m : ℕ) → k ≤ p → p < k + m → occurrences p (countUp k m) ≡ 1
 occurrences-countUp-inside p k zero low high = omega arith
 occurrences-countUp-inside p k (suc m) low high =
-    either (same-or-not k p) (λ e. omega (arith, one-same k p e, occurrences-countUp-below p (suc k) m (omega arith)))
-    (λ d. omega (arith, one-other k p d, occurrences-countUp-inside p (suc k) m (omega arith) (omega arith)))
+    either (same-or-not k p) (λ e. omega (arith, oneIf-same k p e, occurrences-countUp-below p (suc k) m (omega arith)))
+    (λ d. omega (arith, oneIf-other k p d, occurrences-countUp-inside p (suc k) m (omega arith) (omega arith)))
 
 pub occurrences-countUp-above : (p k m : ℕ) → k + m ≤ p → occurrences p (countUp k m) ≡ 0
 occurrences-countUp-above p k zero h = refl
 occurrences-countUp-above p k (suc m) h =
-    omega (arith, one-other k p (λ e. omega arith), occurrences-countUp-above p (suc k) m (omega arith))
+    omega (arith, oneIf-other k p (λ e. omega arith), occurrences-countUp-above p (suc k) m (omega arith))
 
 pub rising-countUp : (k m : ℕ) → Rising (countUp k m)
 rising-countUp k zero = tt

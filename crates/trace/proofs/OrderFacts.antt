@@ -1,6 +1,7 @@
 -- What the definitions of `Orders` mean, said another way, for a reader who doubts them: an order of n events has n entries; what stands before an
--- event are the entries with a lower place; what a read sees is the latest write to its location among these, or none where there is none; and the
--- trace's own order is an order that keeps all arcs. Assumes nothing.
+-- event are the entries with a lower place; what a read sees is the latest write to its location among these, or none where there is none;
+-- a location's last write is the latest write to it, or none where there is none; and the trace's own order is an order that keeps all arcs.
+-- Assumes nothing.
 use Prim.Native.Nat.{ℕ, zero, suc, _+_, _<_, _≤_}
 use native.Mathlib.Omega.{arith}
 use mathlib.Core.Path.{_≡_, refl, sym, ap, _∙_}
@@ -10,10 +11,10 @@ use mathlib.Core.List.{List, [], _∷_}
 use mathlib.Core.Option.{none, some}
 use lib.ListN.{length}
 use Rattle.trace.specs.Trace.{Trace, WRITE}
-use Rattle.trace.specs.Orders.{occurrences, Order, place, KeepsArcs, positions, before, writes, sees}
+use Rattle.trace.specs.Orders.{occurrences, Order, place, KeepsArcs, positions, before, writes, lastWrite, sees}
 use Rattle.trace.proofs.Tests.{Tests, by-test, either, same-or-not, lt-or-le, test-and, test-eq}
 use Rattle.trace.proofs.Paths.{Forward}
-use Rattle.trace.proofs.Lists.{one-same, one-other, occurrences-before-le, occurrences-countUp-inside, occurrences-countUp-above}
+use Rattle.trace.proofs.Lists.{oneIf-same, oneIf-other, occurrences-before-le, occurrences-countUp-inside, occurrences-countUp-above}
 use Rattle.trace.proofs.Lists.{place-lt-of-before, before-of-place-lt, place-before, rising-place, rising-countUp}
 use Rattle.trace.proofs.Lists.{Last, latest-some-iff, latest-none-iff}
 
@@ -55,20 +56,20 @@ entriesBelow-nil (suc n) = omega (arith, entriesBelow-nil n)
 entriesBelow-above : (n x : ℕ) (o : List ℕ) → n ≤ x → entriesBelow n (x ∷ o) ≡ entriesBelow n o
 unfolding entriesBelow
 entriesBelow-above zero x o h = refl
-entriesBelow-above (suc n) x o h = omega (arith, one-other x n (λ e. omega arith), entriesBelow-above n x o (omega arith))
+entriesBelow-above (suc n) x o h = omega (arith, oneIf-other x n (λ e. omega arith), entriesBelow-above n x o (omega arith))
 
 entriesBelow-below : (n x : ℕ) (o : List ℕ) → x < n → entriesBelow n (x ∷ o) ≡ suc (entriesBelow n o)
 unfolding entriesBelow
 entriesBelow-below zero x o h = absurd (omega arith)
 entriesBelow-below (suc n) x o h =
-    either (same-or-not x n) (λ e. omega (arith, one-same x n e, entriesBelow-above n x o (omega arith)))
-    (λ d. omega (arith, one-other x n d, entriesBelow-below n x o (omega arith)))
+    either (same-or-not x n) (λ e. omega (arith, oneIf-same x n e, entriesBelow-above n x o (omega arith)))
+    (λ d. omega (arith, oneIf-other x n d, entriesBelow-below n x o (omega arith)))
 
 entriesBelow-all : (n : ℕ) (o : List ℕ) → ((p : ℕ) → n ≤ p → occurrences p o ≡ 0) → entriesBelow n o ≡ length o
 entriesBelow-all n [] h = entriesBelow-nil n
 entriesBelow-all n (x ∷ o) h =
     either (lt-or-le x n) (λ l. entriesBelow-below n x o l ∙ ap suc (entriesBelow-all n o (λ p k. omega (arith, h p k))))
-    (λ l. absurd (omega (arith, h x l, one-same x x refl)))
+    (λ l. absurd (omega (arith, h x l, oneIf-same x x refl)))
 
 entriesBelow-once : (n : ℕ) (o : List ℕ) → ((p : ℕ) → p < n → occurrences p o ≡ 1) → entriesBelow n o ≡ n
 unfolding entriesBelow
@@ -149,6 +150,50 @@ module _ (tr : Trace) (n : ℕ) (o : List ℕ) (order : Order n o) (r : ℕ) whe
       let none-passed = latest-none-iff passed (before r o) in (
         λ e w h. let found = from-earlier w h in true≢false (sym (found .0) ∙ none-passed .0 e w (found .1)),
         λ h. none-passed .1 (λ w c. by-test (passed w) (λ e. absurd (h w (to-earlier w e c))) (λ e. e)),
+      )
+
+-- ---- a location's last write
+
+-- Among the first n events, w writes the location l.
+pub record WriteOf (tr : Trace) (n l w : ℕ) : Type 0 where
+  pub write : tr .kind w ≡ WRITE
+  pub location : tr .operand w ≡ l
+  pub inside : w < n
+
+-- In the order o it is the latest such write.
+pub record LatestWrite (tr : Trace) (n : ℕ) (o : List ℕ) (l w : ℕ) : Type 0 where
+  pub is-write : WriteOf tr n l w
+  pub none-later : (v : ℕ) → WriteOf tr n l v → place v o ≤ place w o
+
+module _ (tr : Trace) (n : ℕ) (o : List ℕ) (order : Order n o) (l : ℕ) where
+  to-write : (w : ℕ) → writes tr l w ≡ true → 0 < occurrences w o → WriteOf tr n l w
+  to-write w e c =
+      let fact = test-writes tr l w .0 e in record { write = fact .0; location = fact .1; inside = order-inside n o order w c }
+
+  from-write : (w : ℕ) → WriteOf tr n l w → (writes tr l w ≡ true) × (0 < occurrences w o)
+  from-write w h = (test-writes tr l w .1 (h .write, h .location), omega (arith, order .once w (h .inside)))
+
+  -- A location's last write is w exactly if w is the latest write to it.
+  pub last-write-some-iff : (w : ℕ) → (lastWrite tr o l ≡ some w) ↔ LatestWrite tr n o l w
+  last-write-some-iff w =
+      let last = latest-some-iff (writes tr l) o (order-at-most-once n o order) w in (
+        λ e.
+            let h = last .0 e in
+            record {
+              is-write = to-write w (h .passed) (h .entry);
+              none-later = λ v write. let found = from-write v write in h .none-later v (found .0) (found .1);
+            },
+        λ h.
+            let found = from-write w (h .is-write) in
+            last .1 (record { passed = found .0; entry = found .1; none-later = λ v e c. h .none-later v (to-write v e c) }),
+      )
+
+  -- It has no last write exactly if there is no write to it.
+  pub last-write-none-iff : (lastWrite tr o l ≡ none) ↔ ((w : ℕ) → WriteOf tr n l w → ⊥)
+  last-write-none-iff =
+      let none-passed = latest-none-iff (writes tr l) o in (
+        λ e w h. let found = from-write w h in true≢false (sym (found .0) ∙ none-passed .0 e w (found .1)),
+        λ h. none-passed .1 (λ w c. by-test (writes tr l w) (λ e. absurd (h w (to-write w e c))) (λ e. e)),
       )
 
 -- ---- the trace's own order

@@ -106,10 +106,10 @@ tip-now : (tr : Trace) (graph p n k : ℕ) → k ≡ suc n → ReachesTip tr gra
 tip-now tr graph p n k e =
     (λ t. let q : t .0 ≡ n = omega (arith, t .1) in subst (λ (z : ℕ). Reach tr graph p z) q (t .2), λ r. (n, e, r))
 
-module _ (rule : Line → ℕ) (tr : Trace) (graph : ℕ) (forward : Forward tr graph) where
+module _ (haltRule : Line → ℕ) (tr : Trace) (graph : ℕ) (forward : Forward tr graph) where
   -- Event n, of the running task, with the rules kept before it.
   module _ {n : ℕ} {left paused used : List ℕ} {group last : ℕ → ℕ}
-      (run : Run rule tr n left (tr .task n ∷ paused) used group last) (inside : n < graph) where
+      (run : Run haltRule tr n left (tr .task n ∷ paused) used group last) (inside : n < graph) where
     now-own : lastWith tr n last (tr .task n) ≡ suc n
     now-own = updated-same last (tr .task n) (suc n) (tr .task n) refl
 
@@ -120,20 +120,20 @@ module _ (rule : Line → ℕ) (tr : Trace) (graph : ℕ) (forward : Forward tr 
     same-other p y e = tip-same tr graph p (last y) (lastWith tr n last y) (updated-other last (tr .task n) (suc n) y e)
 
     same-paused : (p y : ℕ) → In y paused → Reaches tr graph p last y ↔ Reaches tr graph p (lastWith tr n last) y
-    same-paused p y i = same-other p y (λ e. distinct-stacks rule tr run .of-active .0 (in-eq paused (sym e) i))
+    same-paused p y i = same-other p y (λ e. distinct-stacks haltRule tr run .of-active .0 (in-eq paused (sym e) i))
 
     same-left : (p y : ℕ) → In y left → Reaches tr graph p last y ↔ Reaches tr graph p (lastWith tr n last) y
-    same-left p y i = same-other p y (left-not-active (distinct-stacks rule tr run) (tr .task n) y (inl refl) i)
+    same-left p y i = same-other p y (left-not-active (distinct-stacks haltRule tr run) (tr .task n) y (inl refl) i)
 
     -- The event itself reaches no older event.
     self-none : (u : ℕ) → Reaches tr graph n last u → ⊥
     self-none u t =
-        let h = tips rule tr run .sound u (t .0) (t .1) .0 in
+        let h = tips haltRule tr run .sound u (t .0) (t .1) .0 in
         let i = reach-le forward (t .2) in
         omega arith
 
     running-not-left : In (tr .task n) left → ⊥
-    running-not-left i = distinct-stacks rule tr run .disjoint (tr .task n) i (inl refl)
+    running-not-left i = distinct-stacks haltRule tr run .disjoint (tr .task n) i (inl refl)
 
     -- The event itself.
     order-self : LineOrder (tr .task n) (Reaches tr graph n (lastWith tr n last)) left (tr .task n ∷ paused)
@@ -142,7 +142,7 @@ module _ (rule : Line → ℕ) (tr : Trace) (graph : ℕ) (forward : Forward tr 
         record {
           of-active = (
             (λ r. inl refl, λ i. own-now n .1 (reach-refl inside)),
-            active-absent (tr .task n) R paused (distinct-stacks rule tr run .of-active .0) (λ y i r. self-none y (same-paused n y i .1 r)),
+            active-absent (tr .task n) R paused (distinct-stacks haltRule tr run .of-active .0) (λ y i r. self-none y (same-paused n y i .1 r)),
           );
           of-left = left-beyond (tr .task n) R (tr .task n ∷ paused) left (inl refl) running-not-left;
         }
@@ -156,8 +156,8 @@ module _ (rule : Line → ℕ) (tr : Trace) (graph : ℕ) (forward : Forward tr 
         record {
           of-active = (
             (
-              λ r. o .of-active .0 .0 (either (reach-from rule tr graph forward run inside p h (own-now p .0 r)) (λ t. t) (λ t. absurd (k (t .0)))),
-              λ i. own-now p .1 (reach-own rule tr graph forward run inside p (o .of-active .0 .1 i)),
+              λ r. o .of-active .0 .0 (either (reach-from haltRule tr graph forward run inside p h (own-now p .0 r)) (λ t. t) (λ t. absurd (k (t .0)))),
+              λ i. own-now p .1 (reach-own haltRule tr graph forward run inside p (o .of-active .0 .1 i)),
             ),
             active-same g R R′ paused (same-paused p) (o .of-active .1),
           );
@@ -168,12 +168,12 @@ module _ (rule : Line → ℕ) (tr : Trace) (graph : ℕ) (forward : Forward tr 
         (p : ℕ) → p < suc n → LineOrder (group (tr .task p)) (Reaches tr graph p (lastWith tr n last)) left (tr .task n ∷ paused)
     order-next k f p h =
         either (last-or-below p n h)
-        (λ e. rw (running-own rule tr run p e) (rw e order-self))
+        (λ e. rw (running-own haltRule tr run p e) (rw e order-self))
         (λ i. order-older p i k (group (tr .task p)) (f p i))
 
   -- Event n joins the top of `left` into the running task.
   module _ {n : ℕ} {left paused used : List ℕ} {group last : ℕ → ℕ}
-      (run : Run rule tr n (tr .operand n ∷ left) (tr .task n ∷ paused) used group last) (inside : n < graph) where
+      (run : Run haltRule tr n (tr .operand n ∷ left) (tr .task n ∷ paused) used group last) (inside : n < graph) where
     not-left : In (tr .task n) left → ⊥
     not-left i = running-not-left run inside (inr i)
 
@@ -189,14 +189,14 @@ module _ (rule : Line → ℕ) (tr : Trace) (graph : ℕ) (forward : Forward tr 
         LineOrder g (Reaches tr graph p last) (tr .operand n ∷ left) (tr .task n ∷ paused) →
         LineOrder (rename (tr .operand n) (tr .task n) g) (Reaches tr graph p (lastWith tr n last)) left (tr .task n ∷ paused)
     join-same k p g e o =
-        let d = distinct-stacks rule tr run in
+        let d = distinct-stacks haltRule tr run in
         let R = Reaches tr graph p last in
         let R′ = Reaches tr graph p (lastWith tr n last) in
         let absent : In g paused → ⊥ = λ i. d .disjoint g (inl e) (inr i) in
         rw (rename-same (tr .operand n) (tr .task n) g e)
         (record {
           of-active = (
-            (λ r. inl refl, λ i. own-now run inside p .1 (reach-join rule tr graph forward run inside p k (inl refl) (o .of-left .0 e))),
+            (λ r. inl refl, λ i. own-now run inside p .1 (reach-join haltRule tr graph forward run inside p k (inl refl) (o .of-left .0 e))),
             active-absent (tr .task n) R′ paused (d .of-active .0)
                 (λ y i r. absent-active g R paused absent (o .of-active .1) y i (same-paused run inside p y i .1 r)),
           );
@@ -215,10 +215,10 @@ module _ (rule : Line → ℕ) (tr : Trace) (graph : ℕ) (forward : Forward tr 
         (record {
           of-active = (
             (
-              λ r. either (reach-from rule tr graph forward run inside p h (own-now run inside p .0 r))
+              λ r. either (reach-from haltRule tr graph forward run inside p h (own-now run inside p .0 r))
                   (o .of-active .0 .0)
                   (λ t. strip (o .of-left .1 (t .1))),
-              λ i. own-now run inside p .1 (reach-own rule tr graph forward run inside p (o .of-active .0 .1 i)),
+              λ i. own-now run inside p .1 (reach-own haltRule tr graph forward run inside p (o .of-active .0 .1 i)),
             ),
             active-same g R R′ paused (same-paused run inside p) (o .of-active .1),
           );
@@ -228,7 +228,7 @@ module _ (rule : Line → ℕ) (tr : Trace) (graph : ℕ) (forward : Forward tr 
         })
 
   -- The invariant holds of every event before n.
-  line-order : {n : ℕ} {left active used : List ℕ} {group last : ℕ → ℕ} → Run rule tr n left active used group last → n ≤ graph → (p : ℕ) → p < n →
+  line-order : {n : ℕ} {left active used : List ℕ} {group last : ℕ → ℕ} → Run haltRule tr n left active used group last → n ≤ graph → (p : ℕ) → p < n →
       LineOrder (group (tr .task p)) (Reaches tr graph p last) left active
   line-order start within p h = absurd (omega arith)
   line-order (access {n = n} run k o) within p h =
@@ -237,8 +237,8 @@ module _ (rule : Line → ℕ) (tr : Trace) (graph : ℕ) (forward : Forward tr 
       let last₁ = lastWith tr n last in
       let c = tr .operand n in
       let now-child : updated last₁ c (suc n) c ≡ suc n = updated-same last₁ c (suc n) c refl in
-      let u = used-numbers rule tr run in
-      let in-line : InLine left (tr .task n ∷ paused) (group (tr .task p)) = groups rule tr run .in-line (tr .task p) (of-task-next u p h) in
+      let u = used-numbers haltRule tr run in
+      let in-line : InLine left (tr .task n ∷ paused) (group (tr .task p)) = groups haltRule tr run .in-line (tr .task p) (of-task-next u p h) in
       let old : (y : ℕ) → InLine left (tr .task n ∷ paused) y → y ≢ c =
       λ y i e. new (in-eq used (sym e) (either i (u .of-active y) (u .of-left y))) in
       let at-child = tip-now tr graph p n (updated last₁ c (suc n) c) now-child in
@@ -250,7 +250,7 @@ module _ (rule : Line → ℕ) (tr : Trace) (graph : ℕ) (forward : Forward tr 
       (order-next run within (λ j. omega arith) (λ q i. line-order run (omega arith) q i) p h)
   line-order (join {n = n} {group = group} run k) within p h =
       either (last-or-below p n h)
-      (λ e. rw (running-own rule tr run p e) (rw e (join-self run within)))
+      (λ e. rw (running-own haltRule tr run p e) (rw e (join-self run within)))
       (λ i. let o = line-order run (omega arith) p i in
       either (same-or-not (group (tr .task p)) (tr .operand n))
       (λ e. join-same run within k p (group (tr .task p)) e o)
@@ -263,44 +263,44 @@ module _ (rule : Line → ℕ) (tr : Trace) (graph : ℕ) (forward : Forward tr 
 
   -- The next event is no join: an earlier event reaches it exactly if its task's group is that of an active task,
   pub order-lemma : {n : ℕ} {left paused used : List ℕ} {group last : ℕ → ℕ} →
-      Run rule tr n left (tr .task n ∷ paused) used group last → n < graph → tr .kind n ≢ JOIN → (p : ℕ) → p < n →
+      Run haltRule tr n left (tr .task n ∷ paused) used group last → n < graph → tr .kind n ≢ JOIN → (p : ℕ) → p < n →
       Reach tr graph p n ↔ In (group (tr .task p)) (tr .task n ∷ paused)
   order-lemma run inside k p h =
       let o = line-order run (omega arith) p h in (
-        λ r. o .of-active .0 .0 (either (reach-from rule tr graph forward run inside p h r) (λ t. t) (λ t. absurd (k (t .0)))),
-        λ i. reach-own rule tr graph forward run inside p (o .of-active .0 .1 i),
+        λ r. o .of-active .0 .0 (either (reach-from haltRule tr graph forward run inside p h r) (λ t. t) (λ t. absurd (k (t .0)))),
+        λ i. reach-own haltRule tr graph forward run inside p (o .of-active .0 .1 i),
       )
 
   -- that is, not that of a task in `left`.
   pub order-lemma-left : {n : ℕ} {left paused used : List ℕ} {group last : ℕ → ℕ} →
-      Run rule tr n left (tr .task n ∷ paused) used group last → n < graph → tr .kind n ≢ JOIN → (p : ℕ) → p < n →
+      Run haltRule tr n left (tr .task n ∷ paused) used group last → n < graph → tr .kind n ≢ JOIN → (p : ℕ) → p < n →
       Reach tr graph p n ↔ (In (group (tr .task p)) left → ⊥)
   order-lemma-left {group = group} run inside k p h = (
-    λ r i. distinct-stacks rule tr run .disjoint (group (tr .task p)) i (order-lemma run inside k p h .0 r),
-    λ f. order-lemma run inside k p h .1 (either (event-in-line rule tr run p h) (λ i. i) (λ i. absurd (f i))),
+    λ r i. distinct-stacks haltRule tr run .disjoint (group (tr .task p)) i (order-lemma run inside k p h .0 r),
+    λ f. order-lemma run inside k p h .1 (either (event-in-line haltRule tr run p h) (λ i. i) (λ i. absurd (f i))),
   )
 
   -- The next event is a join: an earlier event reaches it exactly if its task's group is the joined task's or that of an active task.
   pub order-lemma-join : {n : ℕ} {left paused used : List ℕ} {group last : ℕ → ℕ} →
-      Run rule tr n (tr .operand n ∷ left) (tr .task n ∷ paused) used group last → n < graph → tr .kind n ≡ JOIN → (p : ℕ) → p < n →
+      Run haltRule tr n (tr .operand n ∷ left) (tr .task n ∷ paused) used group last → n < graph → tr .kind n ≡ JOIN → (p : ℕ) → p < n →
       Reach tr graph p n ↔ In (group (tr .task p)) (tr .operand n ∷ (tr .task n ∷ paused))
   order-lemma-join run inside k p h =
       let o = line-order run (omega arith) p h in (
-        λ r. either (reach-from rule tr graph forward run inside p h r) (λ t. inr (o .of-active .0 .0 t)) (λ t. o .of-left .1 (t .1)),
+        λ r. either (reach-from haltRule tr graph forward run inside p h r) (λ t. inr (o .of-active .0 .0 t)) (λ t. o .of-left .1 (t .1)),
         λ i. either i
-            (λ e. reach-join rule tr graph forward run inside p k (inl refl) (o .of-left .0 e))
-            (λ j. reach-own rule tr graph forward run inside p (o .of-active .0 .1 j)),
+            (λ e. reach-join haltRule tr graph forward run inside p k (inl refl) (o .of-left .0 e))
+            (λ j. reach-own haltRule tr graph forward run inside p (o .of-active .0 .1 j)),
       )
 
   -- Read after the merge: not that of a task that is then in `left`.
   pub order-lemma-merged : {n : ℕ} {left paused used : List ℕ} {group last : ℕ → ℕ} →
-      Run rule tr n (tr .operand n ∷ left) (tr .task n ∷ paused) used group last → n < graph → tr .kind n ≡ JOIN → (p : ℕ) → p < n →
+      Run haltRule tr n (tr .operand n ∷ left) (tr .task n ∷ paused) used group last → n < graph → tr .kind n ≡ JOIN → (p : ℕ) → p < n →
       Reach tr graph p n ↔ (In (rename (tr .operand n) (tr .task n) (group (tr .task p))) left → ⊥)
   order-lemma-merged {n = n} {left = left} {paused = paused} {group = group} run inside k p h =
       let v = tr .operand n in
       let x = tr .task n in
       let g = group (tr .task p) in
-      let d = distinct-stacks rule tr run in
+      let d = distinct-stacks haltRule tr run in
       let lemma = order-lemma-join run inside k p h in
       either (same-or-not g v)
       (λ e. (
@@ -309,7 +309,7 @@ module _ (rule : Line → ℕ) (tr : Trace) (graph : ℕ) (forward : Forward tr 
       ))
       (λ e. (
         λ r i. either (lemma .0 r) e (d .disjoint g (inr (in-eq left (sym (rename-other v x g e)) i))),
-        λ f. lemma .1 (either (event-in-line rule tr run p h)
+        λ f. lemma .1 (either (event-in-line haltRule tr run p h)
             (λ i. inr i)
             (λ i. either i (λ q. inl q) (λ j. absurd (f (in-eq left (rename-other v x g e) j))))),
       ))

@@ -1,35 +1,35 @@
--- Why the pair of a race matters: right after the pair, the location's last write, or what the read of the pair sees, differs between the two orders
--- that demand 3 promises. Assumes nothing.
+-- Why the pair of a race matters: between the two orders that demand 3 promises, the last writes right after the pair differ where both of the pair
+-- write, and what the read of the pair sees differs where one reads. The last declaration says it of the judge's own order buffers. Assumes nothing.
 use Prim.Native.Nat.{ℕ, suc, _+_, _<_, _≤_}
 use native.Mathlib.Omega.{arith}
 use mathlib.Core.Path.{_≡_, refl, sym, ap, _∙_}
-use mathlib.Core.Logic.{_⊎_, inl, inr, _≢_}
+use mathlib.Core.Logic.{_≢_}
 use mathlib.Core.Bool.{true}
 use mathlib.Core.List.{List, [], _∷_, _++_, append-nil}
 use mathlib.Core.Option.{some, Option·some-injective}
 use lib.ListN.{length, getD, take, drop}
 use lib.Seq.{split-at, drop-cons, append-snoc, take-append-add, length-take-le, ext-getD}
 use borrow.Author.Tests.{eq-eqb, ne-eqb}
-use Rattle.trace.specs.Trace.{Trace, READ}
+use Rattle.trace.specs.Trace.{Trace, traceOf, READ}
 use Rattle.trace.specs.Graph.{here}
 use Rattle.trace.specs.Race.{Race}
 use Rattle.trace.specs.Orders.{occurrences, Order, before, writes, lastWrite, sees}
-use Rattle.trace.specs.Demands.{Swapped}
+use Rattle.trace.specs.Outcome.{says, race, Outcome, judgeOutcome}
+use Rattle.trace.specs.Demands.{graphOf, Swapped, PairMatters}
 use Rattle.trace.proofs.Tests.{either, same-or-not}
-use Rattle.trace.proofs.Lists.{one-same, occurrences-append, before-append, latest-passed, latest-append-passed}
-use Rattle.trace.proofs.OrderFacts.{order-at-most-once}
+use Rattle.trace.proofs.Lists.{oneIf-same, occurrences-append, before-append, latest-passed, latest-append-passed}
+use Rattle.trace.proofs.OrderFacts.{order-at-most-once, test-writes}
 use Rattle.trace.proofs.Conflicts.{ConflictCase, both-write, first-reads, second-reads, conflict-cases}
+use Rattle.trace.proofs.Sizes.{says-sized}
+use Rattle.trace.proofs.Demand2.{judge-demand-2}
+use Rattle.trace.proofs.Demand3.{judge-demand-3}
 use Rattle.trace.proofs.WitnessOrders.{append-swapped, append-swapped-at}
 
--- The pair s, t stands at the places `at` and `at` + 1 of two orders:
-pub data PairMatters (tr : Trace) (s t at : ℕ) (o₁ o₂ : List ℕ) : Type 0 where
-  -- right after the pair, the last write of its location differs,
-  last-write-differs :
-      lastWrite tr (take (at + 2) o₁) (tr .operand s) ≢ lastWrite tr (take (at + 2) o₂) (tr .operand s) → PairMatters tr s t at o₁ o₂
-  -- or one of the pair is a read, and what it sees differs.
-  seen-differs : (r : ℕ) → (r ≡ s) ⊎ (r ≡ t) → tr .kind r ≡ READ → sees tr o₁ r ≢ sees tr o₂ r → PairMatters tr s t at o₁ o₂
-
 -- ---- before the pair D, after it the rest
+
+-- A read is no write.
+read-not-write : (tr : Trace) (l p : ℕ) → tr .kind p ≡ READ → writes tr l p ≡ true → ⊥
+read-not-write tr l p read write = let kind = test-writes tr l p .0 write .0 in omega arith
 
 module _ (D rest : List ℕ) where
   before-first : (a b : ℕ) → occurrences a D ≡ 0 → before a (D ++ (a ∷ b ∷ rest)) ≡ D
@@ -61,16 +61,28 @@ module _ (D rest : List ℕ) where
       (tr : Trace) (s t : ℕ) → s ≢ t → occurrences s D ≡ 0 → occurrences t D ≡ 0 → ConflictCase tr s t
       → PairMatters tr s t (length D) (D ++ (s ∷ t ∷ rest)) (D ++ (t ∷ s ∷ rest))
   by-case tr s t other cs ct (both-write write-s write-t) =
-      last-write-differs
-      (λ same.
-      other
-      (sym
-      (Option·some-injective t s
-      (sym (last-of-pair tr (tr .operand s) s t write-t) ∙ same ∙ last-of-pair tr (tr .operand s) t s write-s))))
-  by-case tr s t other cs ct (first-reads read write) =
-      seen-differs s (inl refl) read (read-differs tr s t (λ e. other (sym e)) cs ct write)
-  by-case tr s t other cs ct (second-reads write read) =
-      seen-differs t (inr refl) read (λ same. read-differs tr t s other ct cs write (sym same))
+      let l = tr .operand s in
+      record {
+        last-writes-differ = λ ks kt same.
+            other (sym (Option·some-injective t s (sym (last-of-pair tr l s t write-t) ∙ same ∙ last-of-pair tr l t s write-s)));
+        seen-differs = λ r w read.
+            absurd
+            (either w (λ e. read-not-write tr l r read (rw e write-s)) (λ e. read-not-write tr l r read (rw e write-t)));
+      }
+  by-case tr s t other cs ct (first-reads read-s write-t) =
+      record {
+        last-writes-differ = λ ks kt. absurd (omega arith);
+        seen-differs = λ r w read.
+            either w (λ e. rw e (read-differs tr s t (λ q. other (sym q)) cs ct write-t))
+            (λ e. absurd (read-not-write tr (tr .operand s) r read (rw e write-t)));
+      }
+  by-case tr s t other cs ct (second-reads write-s read-t) =
+      record {
+        last-writes-differ = λ ks kt. absurd (omega arith);
+        seen-differs = λ r w read.
+            either w (λ e. absurd (read-not-write tr (tr .operand t) r read (rw e write-s)))
+            (λ e. rw e (λ same. read-differs tr t s other ct cs write-s (sym same)));
+      }
 
 -- ---- two lists that differ in the places of s and t have this form
 
@@ -117,20 +129,39 @@ swapped-form s t o₁ o₂ swap =
 
 form-matters :
     (tr : Trace) (graph s t m at : ℕ) (o₁ o₂ : List ℕ) → Race tr graph s t → Order m o₁ → Form s t at o₁ o₂ → PairMatters tr s t at o₁ o₂
-form-matters tr graph s t m at o₁ o₂ race order form =
-    let other : s ≢ t = λ e. race .not-forth (here (race .conflict .second-event) e) in
+form-matters tr graph s t m at o₁ o₂ racing order form =
+    let other : s ≢ t = λ e. racing .not-forth (here (racing .conflict .second-event) e) in
     let pair : List ℕ = s ∷ t ∷ form .rest in
     let once : (p : ℕ) → occurrences p (form .D) + occurrences p pair ≤ 1 =
     λ p.
     omega (arith, order-at-most-once m o₁ order p, ap (occurrences p) (form .first), occurrences-append p (form .D) pair) in
     rw (form .first, form .second, ← form .pair-place)
-    (by-case (form .D) (form .rest) tr s t other (omega (arith, once s, one-same s s refl))
-    (omega (arith, once t, one-same t t refl)) (conflict-cases tr graph (race .conflict)))
+    (by-case (form .D) (form .rest) tr s t other (omega (arith, once s, oneIf-same s s refl))
+    (omega (arith, once t, oneIf-same t t refl)) (conflict-cases tr graph (racing .conflict)))
 
--- For a race s t and two orders as demand 3 promises them, the second the first with the pair swapped: right after the pair, the location's last
--- write, or what the read of the pair sees, differs between the two orders.
+-- For a race s t and two orders as demand 3 promises them, the second the first with the pair swapped.
 pub pair-matters :
     (tr : Trace) (graph s t m : ℕ) (o₁ o₂ : List ℕ) → Race tr graph s t → Order m o₁ → (swap : Swapped s t o₁ o₂)
     → PairMatters tr s t (swap .at) o₁ o₂
-pair-matters tr graph s t m o₁ o₂ race order swap =
-    form-matters tr graph s t m (swap .at) o₁ o₂ race order (swapped-form s t o₁ o₂ swap)
+pair-matters tr graph s t m o₁ o₂ racing order swap =
+    form-matters tr graph s t m (swap .at) o₁ o₂ racing order (swapped-form s t o₁ o₂ swap)
+
+-- The pair of a race that the judge names matters in the two orders that the judge leaves in the order buffers.
+module _ (kinds tasks operands workspace first second : List ℕ) where
+  abbrev lent : Trace
+  lent = traceOf kinds tasks operands
+
+  abbrev out : Outcome
+  out = judgeOutcome kinds tasks operands workspace first second
+
+  pub judge-pair-matters :
+      (s t : ℕ) (said : out .answer ≡ says (race s t))
+      → PairMatters lent s t (judge-demand-3 kinds tasks operands workspace first second .when-race s t said .swapped .at)
+      (take (suc t) (out .first)) (take (suc t) (out .second))
+  judge-pair-matters s t said =
+      let passed = says-sized kinds tasks operands workspace first second said in
+      let n : ℕ = passed .0 in
+      let orders = judge-demand-3 kinds tasks operands workspace first second .when-race s t said in
+      let is-race = judge-demand-2 kinds tasks operands workspace first second .past-sizes n (passed .1) .race-iff s t .0 said in
+      pair-matters lent (graphOf lent n) s t (suc t) (take (suc t) (out .first)) (take (suc t) (out .second)) (is-race .pair) (orders .order₁)
+      (orders .swapped)

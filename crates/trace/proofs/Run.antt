@@ -114,7 +114,7 @@ module _ {tr : Trace} where
 
 -- ---- the run
 
-module _ (rule : Line → ℕ) (tr : Trace) where
+module _ (haltRule : Line → ℕ) (tr : Trace) where
   -- Run n left active used group last: the first n events keep the rules; then these are the two stacks, the numbers used, each task's group (the task
   -- of the line that it was joined into, directly or by way of others, and itself at first), and one more than the position of each task's last event
   -- or, where it has none, of its fork (0: neither).
@@ -139,7 +139,7 @@ module _ (rule : Line → ℕ) (tr : Trace) where
     halt : {n : ℕ} {left paused used : List ℕ} {group last : ℕ → ℕ} →
         Run n left (tr .task n ∷ paused) used group last →
         tr .kind n ≡ HALT →
-        tr .operand n ≡ rule (lineOf left (tr .task n ∷ paused) used) →
+        tr .operand n ≡ haltRule (lineOf left (tr .task n ∷ paused) used) →
         Run (suc n) (tr .task n ∷ left) paused used group (updated last (tr .task n) (suc n))
 
   -- ---- the numbers used

@@ -1,16 +1,19 @@
 -- The computed tests of `specs/Search` are the relations of `specs/Graph` and `specs/Race`: each search passes exactly if its relation holds, in every
--- graph whose arcs lead forward. Assumes nothing.
+-- graph whose arcs lead forward, and so in the graph of every trace. Assumes nothing.
 use Prim.Native.Nat.{ℕ, zero, suc, _<_, _≤_}
-use mathlib.Core.Path.{_≡_, refl, sym, subst}
-use mathlib.Core.Bool.{Bool, true, false}
-use mathlib.Core.Logic.{_⊎_, inl, inr, _≢_}
+use mathlib.Core.Path.{_≡_}
+use mathlib.Core.Bool.{Bool, true}
+use mathlib.Core.Logic.{_⊎_, inl, inr}
 use native.Mathlib.Omega.{arith}
-use Rattle.trace.specs.Trace.{Trace, FORK, JOIN, HALT, isAccess, conflicting}
+use Rattle.trace.specs.Trace.{Trace, FORK, JOIN, HALT}
+use Rattle.trace.specs.Line.{haltOperand}
 use Rattle.trace.specs.Graph.{Arc, to-next, to-child, to-join, Reach, here, more}
 use Rattle.trace.specs.Race.{Conflict, Race}
 use Rattle.trace.specs.Search.{next?, child?, join?, arc?, chain?, reach?, conflict?, race?}
+use Rattle.trace.specs.Demands.{graphOf}
 use Rattle.trace.proofs.Tests.{either, Tests, tests-map, test-eq, test-lt, test-self, test-and, test-or, test-not, test-when, test-some}
 use Rattle.trace.proofs.Paths.{Forward, arc-inside, reach-inside}
+use Rattle.trace.proofs.Forward.{graph-forward}
 
 flat : {A B C : Type 0} {b : Bool} → Tests b ((A × B) × C) → Tests b (A × B × C)
 flat t = tests-map (λ h. (h .0 .0, h .0 .1, h .1)) (λ h. ((h .0, h .1), h .2)) t
@@ -128,3 +131,11 @@ module _ (tr : Trace) (n : ℕ) where
       tests-map (λ h. record { conflict = h .0; not-forth = h .1 .0; not-back = h .1 .1 })
       (λ r. (r .conflict, (r .not-forth, r .not-back)))
       (test-when _ _ (test-conflict p q) (test-and _ _ (test-not _ (test-reach forward p q)) (test-not _ (test-reach forward q p))))
+
+-- The graph of the first n events of every trace.
+module _ (tr : Trace) (n : ℕ) where
+  pub test-reach-graph : (p q : ℕ) → Tests (reach? tr (graphOf tr n) p q) (Reach tr (graphOf tr n) p q)
+  test-reach-graph = test-reach tr (graphOf tr n) (graph-forward haltOperand tr n)
+
+  pub test-race-graph : (p q : ℕ) → Tests (race? tr (graphOf tr n) p q) (Race tr (graphOf tr n) p q)
+  test-race-graph = test-race tr (graphOf tr n) (graph-forward haltOperand tr n)

@@ -140,22 +140,22 @@ module _ (tr : Trace) where
         not-active = λ m h q a. either (last-or-below m n h) (λ e. k (sym (ap (tr .kind) e) ∙ q)) (λ i. halts .not-active m i q (g m i q .1 a));
       }
 
-module _ (rule : Line → ℕ) (tr : Trace) where
+module _ (haltRule : Line → ℕ) (tr : Trace) where
   -- At every moment of a run `last` names the tips,
-  pub tips : {n : ℕ} {left active used : List ℕ} {group last : ℕ → ℕ} → Run rule tr n left active used group last → Tips tr n last
+  pub tips : {n : ℕ} {left active used : List ℕ} {group last : ℕ → ℕ} → Run haltRule tr n left active used group last → Tips tr n last
   tips start = record { sound = λ u m e. absurd (omega arith); complete = λ u m c. let h = c .0 in absurd (omega arith) }
   tips (access {n = n} {last = last} run k o) = tips-own tr n last (tips run) (access-not-fork (tr .kind n) k)
-  tips (fork {n = n} {last = last} run k o new) = tips-fork tr last (used-numbers rule tr run) new k (tips run)
+  tips (fork {n = n} {last = last} run k o new) = tips-fork tr last (used-numbers haltRule tr run) new k (tips run)
   tips (join {n = n} {last = last} run k) = tips-own tr n last (tips run) (λ f. omega arith)
   tips (halt {n = n} {last = last} run k o) = tips-own tr n last (tips run) (λ f. omega arith)
 
   -- and the tips of the tasks in `left` are their halts.
-  pub halts : {n : ℕ} {left active used : List ℕ} {group last : ℕ → ℕ} → Run rule tr n left active used group last → Halts tr n left active last
+  pub halts : {n : ℕ} {left active used : List ℕ} {group last : ℕ → ℕ} → Run haltRule tr n left active used group last → Halts tr n left active last
   halts start = record { by-halt = λ u i. absurd i; is-tip = λ m h. absurd (omega arith); not-active = λ m h. absurd (omega arith) }
   halts (access {n = n} {left = left} {paused = paused} {last = last} run k o) =
       let H = halts run in
       let x = tr .task n in
-      let d = distinct-stacks rule tr run in
+      let d = distinct-stacks haltRule tr run in
       halts-next tr n left left (x ∷ paused) (x ∷ paused) last (updated last x (suc n)) H (access-not-halt (tr .kind n) k)
       (λ y i. (i, updated-other last x (suc n) y (left-not-active d x y (inl refl) i)))
       (λ m h q. (updated-other last x (suc n) (tr .task m) (λ e. H .not-active m h q (inl e)), λ i. i))
@@ -163,8 +163,8 @@ module _ (rule : Line → ℕ) (tr : Trace) where
       let H = halts run in
       let x = tr .task n in
       let c = tr .operand n in
-      let d = distinct-stacks rule tr run in
-      let u = used-numbers rule tr run in
+      let d = distinct-stacks haltRule tr run in
+      let u = used-numbers haltRule tr run in
       let last₁ = updated last x (suc n) in
       let old : (y : ℕ) → In y used → y ≢ c = λ y i e. new (in-eq used (sym e) i) in
       halts-next tr n left left (x ∷ paused) (c ∷ (x ∷ paused)) last (updated last₁ c (suc n)) H (λ f. omega arith)
@@ -177,14 +177,14 @@ module _ (rule : Line → ℕ) (tr : Trace) where
   halts (join {n = n} {left = left} {paused = paused} {last = last} run k) =
       let H = halts run in
       let x = tr .task n in
-      let d = distinct-stacks rule tr run in
+      let d = distinct-stacks haltRule tr run in
       halts-next tr n (tr .operand n ∷ left) left (x ∷ paused) (x ∷ paused) last (updated last x (suc n)) H (λ f. omega arith)
       (λ y i. (inr i, updated-other last x (suc n) y (left-not-active d x y (inl refl) (inr i))))
       (λ m h q. (updated-other last x (suc n) (tr .task m) (λ e. H .not-active m h q (inl e)), λ i. i))
   halts (halt {n = n} {left = left} {paused = paused} {last = last} run k o) =
       let H = halts run in
       let x = tr .task n in
-      let d = distinct-stacks rule tr run in
+      let d = distinct-stacks haltRule tr run in
       record {
         by-halt = λ y i. either i
             (λ e. (n, updated-same last x (suc n) y e, k, sym e))
@@ -203,12 +203,12 @@ module _ (rule : Line → ℕ) (tr : Trace) where
 abbrev pub ReachesTip : Trace → ℕ → ℕ → ℕ → Type 0
 ReachesTip tr graph p value = (m : ℕ) × (value ≡ suc m) × Reach tr graph p m
 
-module _ (rule : Line → ℕ) (tr : Trace) (graph : ℕ) (forward : Forward tr graph) where
-  module _ {n : ℕ} {left active used : List ℕ} {group last : ℕ → ℕ} (run : Run rule tr n left active used group last) (inside : n < graph) where
+module _ (haltRule : Line → ℕ) (tr : Trace) (graph : ℕ) (forward : Forward tr graph) where
+  module _ {n : ℕ} {left active used : List ℕ} {group last : ℕ → ℕ} (run : Run haltRule tr n left active used group last) (inside : n < graph) where
     -- An arc from the tip of the event's own task,
     arc-own : (m : ℕ) → last (tr .task n) ≡ suc m → Arc tr graph m n
     arc-own m e =
-        let c = tips rule tr run .sound (tr .task n) m e in
+        let c = tips haltRule tr run .sound (tr .task n) m e in
         let h = c .0 in
         either (c .1)
         (λ d. to-next h inside (sym (d .0)) (λ r a b t. d .1 r a b (t ∙ d .0)))
@@ -217,17 +217,17 @@ module _ (rule : Line → ℕ) (tr : Trace) (graph : ℕ) (forward : Forward tr 
     -- from the tip of the task that it joins,
     arc-join : tr .kind n ≡ JOIN → In (tr .operand n) left → (m : ℕ) → last (tr .operand n) ≡ suc m → Arc tr graph m n
     arc-join k i m e =
-        let (m′, a, b, c) = halts rule tr run .by-halt (tr .operand n) i in
+        let (m′, a, b, c) = halts haltRule tr run .by-halt (tr .operand n) i in
         let q : m ≡ m′ = omega arith in
-        let h = tips rule tr run .sound (tr .operand n) m e .0 in
+        let h = tips haltRule tr run .sound (tr .operand n) m e .0 in
         let j : m < graph = omega arith in
         to-join j inside (ap (tr .kind) q ∙ b) k (sym c ∙ ap (tr .task) (sym q))
 
     -- and from nowhere else.
     arc-into : (m : ℕ) → m < n → Arc tr graph m n → (last (tr .task n) ≡ suc m) ⊎ ((tr .kind n ≡ JOIN) × (last (tr .operand n) ≡ suc m))
-    arc-into m h (to-next a b c d) = inl (tips rule tr run .complete (tr .task n) m (h, inl (sym c, λ r i j t. d r i j (t ∙ c))))
-    arc-into m h (to-child a b c d e) = inl (tips rule tr run .complete (tr .task n) m (h, inr (c, sym d, λ r j t. e r j (t ∙ d))))
-    arc-into m h (to-join a b c d e) = inr (d, ap last e ∙ halts rule tr run .is-tip m h c)
+    arc-into m h (to-next a b c d) = inl (tips haltRule tr run .complete (tr .task n) m (h, inl (sym c, λ r i j t. d r i j (t ∙ c))))
+    arc-into m h (to-child a b c d e) = inl (tips haltRule tr run .complete (tr .task n) m (h, inr (c, sym d, λ r j t. e r j (t ∙ d))))
+    arc-into m h (to-join a b c d e) = inr (d, ap last e ∙ halts haltRule tr run .is-tip m h c)
 
     -- What reaches one of these tips reaches event n.
     pub reach-own : (p : ℕ) → ReachesTip tr graph p (last (tr .task n)) → Reach tr graph p n

@@ -109,24 +109,24 @@ halted-line x left paused used = refl
 
 -- ---- one event at a state of two stacks whose running task is the event's
 
-module _ (rule : Line → ℕ) (tr : Trace) (n : ℕ) where
+module _ (haltRule : Line → ℕ) (tr : Trace) (n : ℕ) where
   -- Rows 5, 6 and 7 pass, and the row for the kind is left.
   pub step-is : (left paused used : List ℕ) → isKind (tr .kind n) ≡ true →
-      step rule tr n (lineOf left (tr .task n ∷ paused) used)
-      ≡ stepByKind rule (tr .kind n) (tr .task n) (tr .operand n) (lineOf left (tr .task n ∷ paused) used)
+      step haltRule tr n (lineOf left (tr .task n ∷ paused) used)
+      ≡ stepByKind haltRule (tr .kind n) (tr .task n) (tr .operand n) (lineOf left (tr .task n ∷ paused) used)
   unfolding step row isEmpty
   step-is left paused used k = rw (k, head-same (tr .task n) paused)
 
   -- Then each kind of event, with what its row asks, passes.
   pub step-access : (left paused used : List ℕ) → isAccess (tr .kind n) ≡ true → tr .operand n < LOCATIONS →
-      step rule tr n (lineOf left (tr .task n ∷ paused) used) ≡ passes (lineOf left (tr .task n ∷ paused) used)
+      step haltRule tr n (lineOf left (tr .task n ∷ paused) used) ≡ passes (lineOf left (tr .task n ∷ paused) used)
   unfolding stepByKind row
   step-access left paused used k o =
       step-is left paused used (access-is-kind (tr .kind n) k) ∙ rw (k, lt-leb LOCATIONS (tr .operand n) o)
 
   pub step-fork : (left paused used : List ℕ) → DistinctStacks left (tr .task n ∷ paused) → tr .kind n ≡ FORK → tr .operand n < TASKS →
       (In (tr .operand n) used → ⊥) →
-      step rule tr n (lineOf left (tr .task n ∷ paused) used) ≡ passes (lineOf left (tr .operand n ∷ (tr .task n ∷ paused)) (tr .operand n ∷ used))
+      step haltRule tr n (lineOf left (tr .task n ∷ paused) used) ≡ passes (lineOf left (tr .operand n ∷ (tr .task n ∷ paused)) (tr .operand n ∷ used))
   unfolding stepByKind row isKind isAccess
   step-fork left paused used d k o new =
       step-is left paused used (rw k)
@@ -134,22 +134,22 @@ module _ (rule : Line → ℕ) (tr : Trace) (n : ℕ) where
       (ap passes (forked-line (tr .operand n) (tr .task n) left paused used d))
 
   pub step-join : (left paused used : List ℕ) → DistinctStacks (tr .operand n ∷ left) (tr .task n ∷ paused) → tr .kind n ≡ JOIN →
-      step rule tr n (lineOf (tr .operand n ∷ left) (tr .task n ∷ paused) used) ≡ passes (lineOf left (tr .task n ∷ paused) used)
+      step haltRule tr n (lineOf (tr .operand n ∷ left) (tr .task n ∷ paused) used) ≡ passes (lineOf left (tr .task n ∷ paused) used)
   unfolding stepByKind row isKind isAccess
   step-join left paused used d k =
       step-is (tr .operand n ∷ left) paused used (rw k)
       ∙ rw (k, left-is-head (tr .operand n) (tr .task n) (tr .operand n ∷ left) paused d, head-same (tr .operand n) left)
       (ap passes (joined-line (tr .operand n) left (tr .task n ∷ paused) used d))
 
-  pub step-halt : (left paused used : List ℕ) → tr .kind n ≡ HALT → tr .operand n ≡ rule (lineOf left (tr .task n ∷ paused) used) →
-      step rule tr n (lineOf left (tr .task n ∷ paused) used) ≡ passes (lineOf (tr .task n ∷ left) paused used)
+  pub step-halt : (left paused used : List ℕ) → tr .kind n ≡ HALT → tr .operand n ≡ haltRule (lineOf left (tr .task n ∷ paused) used) →
+      step haltRule tr n (lineOf left (tr .task n ∷ paused) used) ≡ passes (lineOf (tr .task n ∷ left) paused used)
   unfolding stepByKind row isKind isAccess
   step-halt left paused used k o =
       step-is left paused used (rw k)
-      ∙ rw (k, eq-eqb (tr .operand n) (rule (lineOf left (tr .task n ∷ paused) used)) o)
+      ∙ rw (k, eq-eqb (tr .operand n) (haltRule (lineOf left (tr .task n ∷ paused) used)) o)
       (ap passes (halted-line (tr .task n) left paused used))
 
-module _ (rule : Line → ℕ) (tr : Trace) where
+module _ (haltRule : Line → ℕ) (tr : Trace) where
   -- A run of n events that leaves this line.
   pub record RunTo (n : ℕ) (line : Line) : Type 0 where
     pub left : List ℕ
@@ -157,7 +157,7 @@ module _ (rule : Line → ℕ) (tr : Trace) where
     pub used : List ℕ
     pub group : ℕ → ℕ
     pub last : ℕ → ℕ
-    pub run : Run rule tr n left active used group last
+    pub run : Run haltRule tr n left active used group last
     pub line-is : line ≡ lineOf left active used
 
   -- Where the rules are kept, a run leaves the line.
@@ -171,11 +171,11 @@ module _ (rule : Line → ℕ) (tr : Trace) where
   kept-row n number false next f = f refl
 
   run-to : {n : ℕ} {left active used : List ℕ} {group last : ℕ → ℕ} (line : Line) → line ≡ lineOf left active used →
-      Run rule tr n left active used group last → RunTo n line
+      Run haltRule tr n left active used group last → RunTo n line
   run-to {left = left} {active = active} {used = used} {group = group} {last = last} line e run =
       record { left = left; active = active; used = used; group = group; last = last; run = run; line-is = e }
 
-  module _ {n : ℕ} {left paused used : List ℕ} {group last : ℕ → ℕ} (run : Run rule tr n left (tr .task n ∷ paused) used group last) where
+  module _ {n : ℕ} {left paused used : List ℕ} {group last : ℕ → ℕ} (run : Run haltRule tr n left (tr .task n ∷ paused) used group last) where
     kept-access : isAccess (tr .kind n) ≡ true →
         KeptBy (suc n) (row 8 (leb LOCATIONS (tr .operand n)) (passes (lineOf left (tr .task n ∷ paused) used)))
     kept-access k =
@@ -189,7 +189,7 @@ module _ (rule : Line → ℕ) (tr : Trace) where
     kept-fork k =
         let a = tr .operand n in
         kept-row (suc n) 9 _ _ (λ e. kept-row (suc n) 10 _ _ (λ e₁.
-        run-to _ (forked-line a (tr .task n) left paused used (distinct-stacks rule tr run))
+        run-to _ (forked-line a (tr .task n) left paused used (distinct-stacks haltRule tr run))
         (fork run k (leb-false TASKS a e) (tests-fails (isMember a used) (test-member a used) e₁))))
 
     kept-join : tr .kind n ≡ JOIN →
@@ -200,25 +200,25 @@ module _ (rule : Line → ℕ) (tr : Trace) where
         let a = tr .operand n in
         kept-row (suc n) 11 _ _ (λ e.
         let is-left = not-false (isLeftOf a (tr .task n) (reverseAux left (tr .task n ∷ paused))) e in
-        let top = head-is a left (sym (left-is-head a (tr .task n) left paused (distinct-stacks rule tr run)) ∙ is-left) in
-        let run′ = subst (λ (l : List ℕ). Run rule tr n l (tr .task n ∷ paused) used group last) (top .1) run in
+        let top = head-is a left (sym (left-is-head a (tr .task n) left paused (distinct-stacks haltRule tr run)) ∙ is-left) in
+        let run′ = subst (λ (l : List ℕ). Run haltRule tr n l (tr .task n ∷ paused) used group last) (top .1) run in
         run-to _
         (ap (λ (l : List ℕ). joined a (lineOf l (tr .task n ∷ paused) used)) (top .1)
-        ∙ joined-line a (top .0) (tr .task n ∷ paused) used (distinct-stacks rule tr run′))
+        ∙ joined-line a (top .0) (tr .task n ∷ paused) used (distinct-stacks haltRule tr run′))
         (join run′ k))
 
     kept-halt : tr .kind n ≡ HALT →
         KeptBy (suc n)
-        (row 12 (not (eqb (tr .operand n) (rule (lineOf left (tr .task n ∷ paused) used))))
+        (row 12 (not (eqb (tr .operand n) (haltRule (lineOf left (tr .task n ∷ paused) used))))
         (passes (halted (lineOf left (tr .task n ∷ paused) used))))
     kept-halt k =
-        let needed = rule (lineOf left (tr .task n ∷ paused) used) in
+        let needed = haltRule (lineOf left (tr .task n ∷ paused) used) in
         kept-row (suc n) 12 _ _ (λ e.
         run-to _ (halted-line (tr .task n) left paused used)
         (halt run k (eqb-true (tr .operand n) needed (not-false (eqb (tr .operand n) needed) e))))
 
     kept-by-kind : isKind (tr .kind n) ≡ true →
-        KeptBy (suc n) (stepByKind rule (tr .kind n) (tr .task n) (tr .operand n) (lineOf left (tr .task n ∷ paused) used))
+        KeptBy (suc n) (stepByKind haltRule (tr .kind n) (tr .task n) (tr .operand n) (lineOf left (tr .task n ∷ paused) used))
     unfolding stepByKind
     kept-by-kind named =
         by-test (isAccess (tr .kind n)) (λ e. rw e (kept-access e)) (λ e. rw e
@@ -226,41 +226,41 @@ module _ (rule : Line → ℕ) (tr : Trace) where
         (by-test (eqb (tr .kind n) JOIN) (λ j. rw j (kept-join (eqb-true (tr .kind n) JOIN j))) (λ j. rw j
         (kept-halt (rest-is-halt (tr .kind n) named e f j)))))))
 
-  kept-step : {n : ℕ} {left active used : List ℕ} {group last : ℕ → ℕ} → Run rule tr n left active used group last →
-      KeptBy (suc n) (step rule tr n (lineOf left active used))
+  kept-step : {n : ℕ} {left active used : List ℕ} {group last : ℕ → ℕ} → Run haltRule tr n left active used group last →
+      KeptBy (suc n) (step haltRule tr n (lineOf left active used))
   unfolding step
   kept-step {n = n} {left = left} {active = active} {used = used} {group = group} {last = last} run =
       kept-row (suc n) 5 _ _ (λ named. kept-row (suc n) 6 _ _ (λ e. kept-row (suc n) 7 _ _ (λ runs.
       let top = head-is (tr .task n) active (not-false (isHead (tr .task n) active) runs) in
       rw (top .1)
-      (kept-by-kind (subst (λ (l : List ℕ). Run rule tr n left l used group last) (top .1) run) (not-false (isKind (tr .kind n)) named)))))
+      (kept-by-kind (subst (λ (l : List ℕ). Run haltRule tr n left l used group last) (top .1) run) (not-false (isKind (tr .kind n)) named)))))
 
-  kept-after : (n : ℕ) (before : Checked Line) → KeptBy n before → KeptBy (suc n) (stepAfter rule tr n before)
+  kept-after : (n : ℕ) (before : Checked Line) → KeptBy n before → KeptBy (suc n) (stepAfter haltRule tr n before)
   unfolding stepAfter
   kept-after n (passes line) r = rw (r .line-is) (kept-step (r .run))
   kept-after n (fails number) r = tt
 
-  kept : (n : ℕ) → KeptBy n (lineAfter rule tr n)
+  kept : (n : ℕ) → KeptBy n (lineAfter haltRule tr n)
   unfolding lineAfter startLine
   kept zero = run-to _ refl start
-  kept (suc n) = kept-after n (lineAfter rule tr n) (kept n)
+  kept (suc n) = kept-after n (lineAfter haltRule tr n) (kept n)
 
   -- Where the first n events keep the rules there is a run of them, and the line is its two stacks,
-  pub run-of : (n : ℕ) (line : Line) → lineAfter rule tr n ≡ passes line → RunTo n line
+  pub run-of : (n : ℕ) (line : Line) → lineAfter haltRule tr n ≡ passes line → RunTo n line
   run-of n line e = let r : KeptBy n (passes line) = subst (λ (c : Checked Line). KeptBy n c) e (kept n) in r
 
   -- and where there is a run of n events they keep the rules, and the line is its two stacks.
-  pub line-of : {n : ℕ} {left active used : List ℕ} {group last : ℕ → ℕ} → Run rule tr n left active used group last →
-      lineAfter rule tr n ≡ passes (lineOf left active used)
+  pub line-of : {n : ℕ} {left active used : List ℕ} {group last : ℕ → ℕ} → Run haltRule tr n left active used group last →
+      lineAfter haltRule tr n ≡ passes (lineOf left active used)
   unfolding lineAfter startLine
   line-of start = refl
   line-of (access {n = n} {left = left} {paused = paused} {used = used} run k o) =
-      line-more rule tr n (lineOf left (tr .task n ∷ paused) used) (line-of run) ∙ step-access rule tr n left paused used k o
+      line-more haltRule tr n (lineOf left (tr .task n ∷ paused) used) (line-of run) ∙ step-access haltRule tr n left paused used k o
   line-of (fork {n = n} {left = left} {paused = paused} {used = used} run k o new) =
-      line-more rule tr n (lineOf left (tr .task n ∷ paused) used) (line-of run)
-      ∙ step-fork rule tr n left paused used (distinct-stacks rule tr run) k o new
+      line-more haltRule tr n (lineOf left (tr .task n ∷ paused) used) (line-of run)
+      ∙ step-fork haltRule tr n left paused used (distinct-stacks haltRule tr run) k o new
   line-of (join {n = n} {left = left} {paused = paused} {used = used} run k) =
-      line-more rule tr n (lineOf (tr .operand n ∷ left) (tr .task n ∷ paused) used) (line-of run)
-      ∙ step-join rule tr n left paused used (distinct-stacks rule tr run) k
+      line-more haltRule tr n (lineOf (tr .operand n ∷ left) (tr .task n ∷ paused) used) (line-of run)
+      ∙ step-join haltRule tr n left paused used (distinct-stacks haltRule tr run) k
   line-of (halt {n = n} {left = left} {paused = paused} {used = used} run k o) =
-      line-more rule tr n (lineOf left (tr .task n ∷ paused) used) (line-of run) ∙ step-halt rule tr n left paused used k o
+      line-more haltRule tr n (lineOf left (tr .task n ∷ paused) used) (line-of run) ∙ step-halt haltRule tr n left paused used k o

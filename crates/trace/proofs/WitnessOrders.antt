@@ -6,7 +6,7 @@
 use Prim.Native.Nat.{ℕ, zero, suc, _+_, _<_}
 use native.Mathlib.Omega.{arith}
 use mathlib.Core.Path.{_≡_, refl, sym, ap, _∙_}
-use mathlib.Core.Logic.{_⊎_, inl, inr, _≢_}
+use mathlib.Core.Logic.{inl, inr, _≢_}
 use mathlib.Core.Bool.{Bool, true, false, true≢false}
 use mathlib.Core.List.{List, [], _∷_, _++_}
 use lib.Dec.{eqb}
@@ -14,21 +14,16 @@ use lib.ListN.{length, getD, length-append}
 use borrow.Author.Tests.{eqb-true, eqb-false}
 use Rattle.trace.specs.Trace.{Trace}
 use Rattle.trace.specs.Graph.{Arc, Reach}
-use Rattle.trace.specs.Orders.{one, occurrences, Order, place, KeepsArcs, positions, select}
+use Rattle.trace.specs.Race.{InD}
+use Rattle.trace.specs.Orders.{oneIf, occurrences, Order, place, KeepsArcs, positions, select}
 use Rattle.trace.specs.Outcome.{other?, schedule}
 use Rattle.trace.specs.Demands.{Swapped, Witnesses}
 use Rattle.trace.proofs.Tests.{Tests, by-test, either, tests-false}
 use Rattle.trace.proofs.Paths.{Forward, reach-arc, reach-cons, reach-le}
-use Rattle.trace.proofs.Lists.{one-same, one-other, occurrences-append, occurrences-select-passed, occurrences-select-failed}
+use Rattle.trace.proofs.Lists.{oneIf-same, oneIf-other, occurrences-append, occurrences-select-passed, occurrences-select-failed}
 use Rattle.trace.proofs.Lists.{place-here, place-there, place-lt-length, place-append-left, place-append-right}
 use Rattle.trace.proofs.Lists.{rising-select, rising-place, rising-countUp}
 use Rattle.trace.proofs.OrderFacts.{positions-order, order-length}
-
--- D: "the events other than s and t that reach s or t".
-pub record InD (tr : Trace) (graph s t p : ℕ) : Type 0 where
-  pub not-s : p ≢ s
-  pub not-t : p ≢ t
-  pub reaches : Reach tr graph p s ⊎ Reach tr graph p t
 
 -- ---- what is early, then a, then b, then what is late
 
@@ -96,18 +91,18 @@ module _ (early late : ℕ → Bool) (a b m : ℕ) where
           not-in-lates : late p ≡ false → occurrences p lates ≡ 0
           not-in-lates e = occurrences-select-failed late p (positions m) e
 
-          not-one : (x : ℕ) → p ≢ x → one x p ≡ 0
-          not-one x other = one-other x p (λ e. other (sym e))
+          not-one : (x : ℕ) → p ≢ x → oneIf x p ≡ 0
+          not-one x other = oneIf-other x p (λ e. other (sym e))
 
           by-part : Part early late a b p → occurrences p earlies + occurrences p (a ∷ b ∷ lates) ≡ occurrences p (positions m)
           by-part (is-early e l na nb) =
               omega (arith, occurrences-select-passed early p (positions m) e, not-in-lates l, not-one a na, not-one b nb)
           by-part (is-a e l ea nb) =
               let inside = positions-order m .once p (omega arith) in
-              omega (arith, not-in-earlies e, not-in-lates l, one-same a p (sym ea), not-one b nb)
+              omega (arith, not-in-earlies e, not-in-lates l, oneIf-same a p (sym ea), not-one b nb)
           by-part (is-b e l na eb) =
               let inside = positions-order m .once p (omega arith) in
-              omega (arith, not-in-earlies e, not-in-lates l, not-one a na, one-same b p (sym eb))
+              omega (arith, not-in-earlies e, not-in-lates l, not-one a na, oneIf-same b p (sym eb))
           by-part (is-late e l na nb) =
               omega (arith, not-in-earlies e, occurrences-select-passed late p (positions m) l, not-one a na, not-one b nb)
 

@@ -1,29 +1,76 @@
--- The owner's demands 2 and 3, as records that a contract can cite. Assumes nothing.
-use Prim.Native.Nat.{ℕ, suc, _<_, _≤_}
+-- The owner's demands 1, 2 and 3, as records that a contract can cite; what the ordering call's answer says; and why a race matters. Assumes nothing.
+use Prim.Native.Nat.{ℕ, suc, _+_, _<_, _≤_}
 use mathlib.Core.Path.{_≡_}
+use mathlib.Core.Bool.{Bool, true, false}
 use mathlib.Core.List.{List}
-use mathlib.Core.Logic.{_⊎_, _↔_}
+use mathlib.Core.Logic.{_⊎_, _↔_, _≢_}
 use lib.ListN.{length, getD, take, drop}
-use Rattle.trace.specs.Trace.{Trace, traceOf, READ}
+use Rattle.trace.specs.Trace.{Trace, traceOf, READ, WRITE, WORKSPACE-CELLS}
 use Rattle.trace.specs.Line.{Line, passes, fails, haltOperand, step, lineAfter}
 use Rattle.trace.specs.Graph.{Reach, graphEvents}
 use Rattle.trace.specs.Race.{Conflict, Race}
 use Rattle.trace.specs.Orders.{Order, KeepsArcs, positions, lastWrite, sees}
 use Rattle.trace.specs.Outcome.{Reply, says, refused, Verdict, clean, race, sizes, orderRoom}
 
+-- ---- demand 1
+
+-- A refusal by one of the rows 1 to `last`, which are tied to no event: "A refusal tied to no event, line or byte has position 0."
+abbrev pub SizeRefusal : ℕ → ℕ → ℕ → Type 0
+SizeRefusal last number position = (1 ≤ number) × (number ≤ last) × (position ≡ 0)
+
+-- A refusal of one of n events: "The position is the event's for 5 to 12".
+abbrev pub EventRefusal : ℕ → ℕ → ℕ → Type 0
+EventRefusal n number position = (5 ≤ number) × (number ≤ 12) × (position < n)
+
+-- "the first 12,288 cells plus one per event are 0, and the rest is unchanged": of n events, and of the workspace before and after.
+pub record FirstCellsZero (n : ℕ) (before after : List ℕ) : Type 0 where
+  pub room : WORKSPACE-CELLS + n ≤ length before
+  pub one-length : length after ≡ length before
+  pub zeros : (i : ℕ) → i < WORKSPACE-CELLS + n → getD after i 0 ≡ 0
+  pub rest : (i : ℕ) → WORKSPACE-CELLS + n ≤ i → getD after i 0 ≡ getD before i 0
+
+-- DEMAND 1 of the judge: of its answer to what was lent, and of what the workspace and the two order buffers hold then.
+pub record JudgeDemand1 (kinds workspace first second : List ℕ) (answer : Reply Verdict) (workspace′ first′ second′ : List ℕ) : Type 0 where
+  -- "The answer to every trace and every set of lent buffers is clean, race with two event positions, or one refusal from the table in document 01 with
+  -- its position."
+  pub race-positions : (s t : ℕ) → answer ≡ says (race s t) → (s < t) × (t < length kinds)
+  pub refusals : (number position : ℕ) → answer ≡ refused number position → SizeRefusal 4 number position ⊎ EventRefusal (length kinds) number position
+  -- "With clean or refused neither buffer changes."
+  pub orders-kept : ((s t : ℕ) → answer ≢ says (race s t)) → (first′ ≡ first) × (second′ ≡ second)
+  -- No buffer changes its length.
+  pub length-workspace : length workspace′ ≡ length workspace
+  pub length-first : length first′ ≡ length first
+  pub length-second : length second′ ≡ length second
+  -- "After refusals 1 to 4" "the workspace is unchanged."
+  pub workspace-kept : (number position : ℕ) → answer ≡ refused number position → number ≤ 4 → workspace′ ≡ workspace
+  -- "After every other answer the first 12,288 cells plus one per event are 0, and the rest is unchanged."
+  pub workspace-cleared :
+      ((number position : ℕ) → answer ≡ refused number position → 4 < number) → FirstCellsZero (length kinds) workspace workspace′
+
+-- DEMAND 1 of the ordering call: "The ordering call says yes, no or such a refusal." It has no order buffers, and row 13 besides.
+pub record OrderingDemand1 (kinds workspace : List ℕ) (answer : Reply Bool) (workspace′ : List ℕ) : Type 0 where
+  pub refusals :
+      (number position : ℕ) → answer ≡ refused number position
+      → SizeRefusal 3 number position ⊎ EventRefusal (length kinds) number position ⊎ ((number ≡ 13) × (position ≡ 0))
+  pub length-workspace : length workspace′ ≡ length workspace
+  -- "It treats the workspace as the judge does."
+  pub workspace-kept : (number position : ℕ) → answer ≡ refused number position → number ≤ 3 → workspace′ ≡ workspace
+  pub workspace-cleared :
+      ((number position : ℕ) → answer ≡ refused number position → 3 < number) → FirstCellsZero (length kinds) workspace workspace′
+
 -- ---- demand 2, for the first n events of a trace
 
-module _ (tr : Trace) (n : ℕ) where
+module _ (tr : Trace) where
   -- The first n events keep the line rules.
-  pub record KeepsRules : Type 0 where
+  pub record KeepsRules (n : ℕ) : Type 0 where
     pub line : Line
     pub reached : lineAfter haltOperand tr n ≡ passes line
 
-  -- Event n is the first that breaks a line rule, and meets the row of this number.
-  pub record BreaksFirst (number : ℕ) : Type 0 where
+  -- Event p is the first that breaks a line rule, and meets the row of this number.
+  pub record BreaksFirst (p number : ℕ) : Type 0 where
     pub line : Line
-    pub kept-before : lineAfter haltOperand tr n ≡ passes line
-    pub broken : step haltOperand tr n line ≡ fails number
+    pub kept-before : lineAfter haltOperand tr p ≡ passes line
+    pub broken : step haltOperand tr p line ≡ fails number
 
 -- In a graph of this many events, no access before t races with an earlier one.
 abbrev pub NoRaceBefore : Trace → ℕ → ℕ → Type 0
@@ -38,7 +85,8 @@ module _ (tr : Trace) (n : ℕ) where
     pub keeps-rules : KeepsRules tr n
     pub connected : (p q : ℕ) → Conflict tr graphOf p q → Reach tr graphOf p q ⊎ Reach tr graphOf q p
 
-  -- "the first event that breaks a rule .. decides the answer", where no access before it races with an earlier one
+  -- "Otherwise the first event that breaks a rule or races with an earlier one decides the answer." Event p breaks a rule, and no access before it
+  -- races with an earlier one.
   pub record IsRefused (number p : ℕ) : Type 0 where
     pub inside : p < n
     pub breaks-first : BreaksFirst tr p number
@@ -53,13 +101,6 @@ module _ (tr : Trace) (n : ℕ) where
     pub first : NoRaceBefore tr graphOf t
     pub earliest : (p : ℕ) → p < s → Race tr graphOf p t → ⊥
 
-  -- DEMAND 2 of an answer, past rows 1 to 4.
-  pub record Demand2 (answer : Reply Verdict) : Type 0 where
-    pub clean-iff : (answer ≡ says clean) ↔ IsClean
-    pub refused-iff : (number p : ℕ) → (answer ≡ refused number p) ↔ IsRefused number p
-    pub race-iff : (s t : ℕ) → (answer ≡ says (race s t)) ↔ IsRace s t
-    pub rows : (number p : ℕ) → answer ≡ refused number p → (5 ≤ number) × (number ≤ 12)
-
   -- Exactly one of the three holds of every trace, with one number and position, or one pair.
   pub record ExactlyOne : Type 0 where
     pub one-holds : IsClean ⊎ ((number : ℕ) × (p : ℕ) × IsRefused number p) ⊎ ((s : ℕ) × (t : ℕ) × IsRace s t)
@@ -69,13 +110,39 @@ module _ (tr : Trace) (n : ℕ) where
     pub one-refusal : (number p number′ p′ : ℕ) → IsRefused number p → IsRefused number′ p′ → (number ≡ number′) × (p ≡ p′)
     pub one-race : (s t s′ t′ : ℕ) → IsRace s t → IsRace s′ t′ → (s ≡ s′) × (t ≡ t′)
 
+  -- DEMAND 2 of an answer, past rows 1 to 4.
+  pub record Demand2 (answer : Reply Verdict) : Type 0 where
+    pub clean-iff : (answer ≡ says clean) ↔ IsClean
+    pub refused-iff : (number p : ℕ) → (answer ≡ refused number p) ↔ IsRefused number p
+    pub race-iff : (s t : ℕ) → (answer ≡ says (race s t)) ↔ IsRace s t
+    pub rows : (number p : ℕ) → answer ≡ refused number p → (5 ≤ number) × (number ≤ 12)
+    pub exactly-one : ExactlyOne
+
 -- DEMAND 2 of the judge's answer to what was lent: "Past the size checks (rows 1 to 4)" it holds of the trace's n events.
 pub record JudgeDemand2 (kinds tasks operands workspace first second : List ℕ) (answer : Reply Verdict) : Type 0 where
   pub past-sizes : (n : ℕ) → orderRoom first second (sizes kinds tasks operands workspace) ≡ passes n → Demand2 (traceOf kinds tasks operands) n answer
 
+-- ---- the ordering call
+
+-- Of an answer to p and q and the first n events of a trace, past rows 1 to 3. "The whole trace must keep the line rules; races don't stop it."
+pub record OrderingDemand (tr : Trace) (n p q : ℕ) (answer : Reply Bool) : Type 0 where
+  -- "It says yes exactly if p reaches q, else no."
+  pub yes-iff : (answer ≡ says true) ↔ (KeepsRules tr n × (p < n) × (q < n) × Reach tr n p q)
+  pub no-iff : (answer ≡ says false) ↔ (KeepsRules tr n × (p < n) × (q < n) × (Reach tr n p q → ⊥))
+  -- Row 13: "p or q isn't below the number of events". "Refusal 13 comes after all others."
+  pub beyond-iff : (answer ≡ refused 13 0) ↔ (KeepsRules tr n × ((n ≤ p) ⊎ (n ≤ q)))
+  -- Rows 5 to 12: event k is the first that breaks a rule, and meets the row of this number.
+  pub refused-iff : (number k : ℕ) → number ≤ 12 → (answer ≡ refused number k) ↔ ((k < n) × BreaksFirst tr k number)
+  pub rows : (number k : ℕ) → answer ≡ refused number k → ((5 ≤ number) × (number ≤ 12)) ⊎ ((number ≡ 13) × (k ≡ 0))
+
+-- The same of the ordering call's answer to what was lent.
+pub record OrderingCallDemand (kinds tasks operands workspace : List ℕ) (p q : ℕ) (answer : Reply Bool) : Type 0 where
+  pub past-sizes : (n : ℕ) → sizes kinds tasks operands workspace ≡ passes n → OrderingDemand (traceOf kinds tasks operands) n p q answer
+
 -- ---- demand 3
 
--- In the order o "each read sees the same write as in the trace itself, and each location ends with the same last write as there".
+-- In the order o "each read sees the same write as in the trace itself, and each location ends with the same last write as there". "Two writes are the
+-- same if they are one event; none is the same only as none."
 pub record SameWrites (tr : Trace) (n : ℕ) (o : List ℕ) : Type 0 where
   pub reads : (r : ℕ) → r < n → tr .kind r ≡ READ → sees tr o r ≡ sees tr (positions n) r
   pub ends : (l : ℕ) → lastWrite tr o l ≡ lastWrite tr (positions n) l
@@ -89,7 +156,7 @@ pub record Swapped (s t : ℕ) (o₁ o₂ : List ℕ) : Type 0 where
   pub first-t : getD o₁ (suc at) 0 ≡ t
   pub second-t : getD o₂ at 0 ≡ t
   pub second-s : getD o₂ (suc at) 0 ≡ s
-  pub elsewhere : (i : ℕ) → (i ≡ at → ⊥) → (i ≡ suc at → ⊥) → getD o₁ i 0 ≡ getD o₂ i 0
+  pub elsewhere : (i : ℕ) → i ≢ at → i ≢ suc at → getD o₁ i 0 ≡ getD o₂ i 0
 
 -- "two orders of the events up to t, t included. Each keeps all arcs between those events."
 pub record Witnesses (tr : Trace) (graph s t : ℕ) (o₁ o₂ : List ℕ) : Type 0 where
@@ -101,13 +168,26 @@ pub record Witnesses (tr : Trace) (graph s t : ℕ) (o₁ o₂ : List ℕ) : Typ
 
 -- DEMAND 3 of an answer about the first n events, and of the order buffers before (b₁, b₂) and after (a₁, a₂).
 pub record Demand3 (tr : Trace) (n : ℕ) (answer : Reply Verdict) (b₁ b₂ a₁ a₂ : List ℕ) : Type 0 where
-  -- "if the judge said clean, then whatever order of all the events the cores take, so long as it keeps all arcs of the task graph, ..."
+  -- "if the judge said clean, then whatever order of all the events the cores take, so long as it keeps all arcs of the task graph, each read sees the
+  -- same write as in the trace itself, and each location ends with the same last write as there."
   pub when-clean : answer ≡ says clean → (o : List ℕ) → Order n o → KeepsArcs tr (graphOf tr n) n o → SameWrites tr n o
-  -- "If it said race s t, the first t + 1 cells of the two order buffers hold two orders of the events up to t, t included. ..."
+  -- "If it said race s t, the first t + 1 cells of the two order buffers hold two orders of the events up to t, t included."
   pub when-race : (s t : ℕ) → answer ≡ says (race s t) → Witnesses tr (graphOf tr n) s t (take (suc t) a₁) (take (suc t) a₂)
+  -- "Cells from t + 1 on are unchanged."
   pub unchanged₁ : (s t : ℕ) → answer ≡ says (race s t) → drop (suc t) a₁ ≡ drop (suc t) b₁
   pub unchanged₂ : (s t : ℕ) → answer ≡ says (race s t) → drop (suc t) a₂ ≡ drop (suc t) b₂
 
 -- DEMAND 3 of the judge's answer to what was lent, and of the order buffers at exit: "For every trace and every set of lent buffers".
 abbrev pub JudgeDemand3 : List ℕ → List ℕ → List ℕ → Reply Verdict → List ℕ → List ℕ → List ℕ → List ℕ → Type 0
 JudgeDemand3 kinds tasks operands answer b₁ b₂ a₁ a₂ = Demand3 (traceOf kinds tasks operands) (length kinds) answer b₁ b₂ a₁ a₂
+
+-- ---- why a race matters
+
+-- The pair s, t of a race stands at the places `at` and `at` + 1 of two orders.
+pub record PairMatters (tr : Trace) (s t at : ℕ) (o₁ o₂ : List ℕ) : Type 0 where
+  -- Where both write, the last writes of their location right after the pair differ.
+  pub last-writes-differ :
+      tr .kind s ≡ WRITE → tr .kind t ≡ WRITE
+      → lastWrite tr (take (at + 2) o₁) (tr .operand s) ≢ lastWrite tr (take (at + 2) o₂) (tr .operand s)
+  -- What the one of the pair that is a read sees differs.
+  pub seen-differs : (r : ℕ) → (r ≡ s) ⊎ (r ≡ t) → tr .kind r ≡ READ → sees tr o₁ r ≢ sees tr o₂ r

@@ -1,5 +1,5 @@
--- The line of tasks and the running task (document 01, "The line and the running task"; source document 000, section 2), and the rows 5 to 12
--- that an event can meet (document 01, "Why a trace is turned back"). Assumes nothing.
+-- The line of tasks and the running task (document 01, "The line and the running task"; source document 000, section 5 and its Figure 9), and
+-- the rows 5 to 12 that an event can meet (document 01, "Why a trace is turned back"). Assumes nothing.
 use Prim.Native.Nat.{ℕ, zero, suc}
 use mathlib.Core.Bool.{Bool, true, false, cond, not, _&&_, _||_}
 use mathlib.Core.List.{List, [], _∷_, tail}
@@ -73,7 +73,7 @@ halted line = record { tasks = line .tasks; active = tail (line .active); used =
 unfoldable pub haltOperand : Line → ℕ
 haltOperand line = 0
 
--- The rules take what a halt's operand must be as a parameter.
+-- What a halt's operand must be is a parameter of the rules, so that two rules for it can be compared on one function.
 module _ (haltRule : Line → ℕ) where
   -- The one row for the event's kind (9 before 10).
   unfoldable pub stepByKind : ℕ → ℕ → ℕ → Line → Checked Line

@@ -5,18 +5,17 @@ use mathlib.Core.Bool.{Bool, true, false, cond, _&&_}
 use mathlib.Core.List.{List, [], _∷_}
 use mathlib.Core.Option.{Option, none, some}
 use lib.Dec.{eqb}
-use lib.ListN.{length, getD}
-use Rattle.trace.specs.Trace.{Trace, READ, WRITE}
+use Rattle.trace.specs.Trace.{Trace, WRITE}
 use Rattle.trace.specs.Graph.{Arc}
 
 -- 1 where x is p, else 0.
-unfoldable pub one : ℕ → ℕ → ℕ
-one x p = cond (eqb x p) 1 0
+unfoldable pub oneIf : ℕ → ℕ → ℕ
+oneIf x p = cond (eqb x p) 1 0
 
 -- How often p stands in a list.
 abbrev pub occurrences : ℕ → List ℕ → ℕ
 occurrences p [] = 0
-occurrences p (x ∷ xs) = one x p + occurrences p xs
+occurrences p (x ∷ xs) = oneIf x p + occurrences p xs
 
 -- "An order of a trace's events is a list that has each position once": each of 0 to n - 1, and no other.
 pub record Order (n : ℕ) (o : List ℕ) : Type 0 where
@@ -52,12 +51,13 @@ abbrev pub before : ℕ → List ℕ → List ℕ
 before r [] = []
 before r (x ∷ xs) = cond (eqb x r) [] (x ∷ before r xs)
 
--- The latest entry of a list that passes a test.
+-- What was found, or else x where it passed.
 abbrev pub orThis : Option ℕ → Bool → ℕ → Option ℕ
 orThis (some y) passed x = some y
 orThis none true x = some x
 orThis none false x = none
 
+-- The latest entry of a list that passes a test, or none: what passes further on in the list comes first.
 abbrev pub latest : (ℕ → Bool) → List ℕ → Option ℕ
 latest test [] = none
 latest test (x ∷ xs) = orThis (latest test xs) (test x) x

@@ -1,16 +1,23 @@
--- Conflicts and races (document 01, "Paths, conflicts, races"; source document 000, section 2.3). Assumes nothing.
+-- Conflicts and races (document 01, "Paths, conflicts, races"; source document 000, section 2.3), and the events that a race's two orders put first.
+-- Assumes nothing.
 use Prim.Native.Nat.{ℕ, _<_}
 use mathlib.Core.Path.{_≡_}
-use mathlib.Core.Bool.{true}
-use Rattle.trace.specs.Trace.{Trace, isAccess, conflicting}
+use mathlib.Core.Bool.{Bool, true, _||_}
+use mathlib.Core.Logic.{_⊎_, _≢_}
+use lib.Dec.{eqb}
+use Rattle.trace.specs.Trace.{Trace, WRITE, isAccess}
 use Rattle.trace.specs.Graph.{Reach}
 
--- Among the first n events:
-module _ (tr : Trace) (n : ℕ) where
+-- Which kinds of two accesses to one location conflict: "at least one is a write".
+unfoldable pub conflicting : ℕ → ℕ → Bool
+conflicting j k = eqb j WRITE || eqb k WRITE
+
+-- In the graph of the first `graph` events:
+module _ (tr : Trace) (graph : ℕ) where
   -- "Two accesses conflict if they have one location and at least one is a write."
   pub record Conflict (p q : ℕ) : Type 0 where
-    pub first-event : p < n
-    pub second-event : q < n
+    pub first-event : p < graph
+    pub second-event : q < graph
     pub first-access : isAccess (tr .kind p) ≡ true
     pub second-access : isAccess (tr .kind q) ≡ true
     pub one-location : tr .operand p ≡ tr .operand q
@@ -19,5 +26,11 @@ module _ (tr : Trace) (n : ℕ) where
   -- "They race if they conflict and neither reaches the other."
   pub record Race (p q : ℕ) : Type 0 where
     pub conflict : Conflict p q
-    pub not-forth : Reach tr n p q → ⊥
-    pub not-back : Reach tr n q p → ⊥
+    pub not-forth : Reach tr graph p q → ⊥
+    pub not-back : Reach tr graph q p → ⊥
+
+  -- "For a race let D be the events other than s and t that reach s or t": p is one of them.
+  pub record InD (s t p : ℕ) : Type 0 where
+    pub not-s : p ≢ s
+    pub not-t : p ≢ t
+    pub reaches : Reach tr graph p s ⊎ Reach tr graph p t

@@ -1,10 +1,9 @@
 -- The runs of document 01 that are marked † ("Runs to go by"), as one table of trace and outcome, judged by the very function that the judge's contract
 -- cites. Assumes nothing.
-use Prim.Native.Nat.{ℕ, zero, suc, _+_}
-use mathlib.Core.Path.{_≡_}
+use Prim.Native.Nat.{ℕ, suc, _+_}
 use mathlib.Core.List.{List, [], _∷_, _++_, map}
 use lib.ListN.{length, drop, replicate}
-use Rattle.trace.specs.Trace.{READ, WRITE, FORK, JOIN, HALT, TABLE-CELLS}
+use Rattle.trace.specs.Trace.{READ, WRITE, FORK, JOIN, HALT, WORKSPACE-CELLS}
 use Rattle.trace.specs.Outcome.{Reply, says, refused, Verdict, clean, race, Outcome, judgeOutcome}
 
 pub record Event : Type 0 where
@@ -34,19 +33,19 @@ abbrev pub _halt : ℕ → Event
 x halt = record { task = x; kind = HALT; operand = 0 }
 
 -- A trace, its answer, and the two orders that it leaves (none but after a race).
-pub record Run : Type 0 where
+pub record Example : Type 0 where
   pub events : List Event
   pub answer : Reply Verdict
   pub order₁ : List ℕ
   pub order₂ : List ℕ
 
-abbrev gives : List Event → Reply Verdict → Run
+abbrev gives : List Event → Reply Verdict → Example
 gives events answer = record { events = events; answer = answer; order₁ = []; order₂ = [] }
 
-abbrev races : List Event → ℕ → ℕ → List ℕ → List ℕ → Run
+abbrev races : List Event → ℕ → ℕ → List ℕ → List ℕ → Example
 races events s t order₁ order₂ = record { events = events; answer = says (race s t); order₁ = order₁; order₂ = order₂ }
 
-unfoldable pub runs : List Run
+unfoldable pub runs : List Example
 runs =
     gives [] (says clean)
     ∷ gives (0 write 1023 ∷ []) (says clean)
@@ -66,21 +65,24 @@ runs =
     ∷ gives (0 fork 1 ∷ 1 read 7 ∷ 1 halt ∷ 0 read 7 ∷ 0 fork 2 ∷ 2 join 1 ∷ 2 halt ∷ 0 join 2 ∷ 0 write 7 ∷ []) (says clean)
     ∷ []
 
--- Each is judged in a workspace and in order buffers that hold 9 everywhere and are one cell longer than they need to be.
-unfoldable pub nines : ℕ → List ℕ
-nines n = replicate (suc n) 9
+-- What is lent where n cells are needed: one cell more, and 9 in every cell.
+unfoldable pub lentFor : ℕ → List ℕ
+lentFor n = replicate (suc n) 9
 
-unfoldable pub judged : Run → Outcome
-judged run =
-    let n = length (run .events) in
-    judgeOutcome (map (λ e. e .kind) (run .events)) (map (λ e. e .task) (run .events)) (map (λ e. e .operand) (run .events)) (nines (TABLE-CELLS + n)) (nines n) (nines n)
+-- What the judge's outcome is, and what document 01 says that it is.
+unfoldable pub judged : Example → Outcome
+judged example =
+    let events = example .events in
+    let n = length events in
+    judgeOutcome (map (λ e. e .kind) events) (map (λ e. e .task) events) (map (λ e. e .operand) events) (lentFor (WORKSPACE-CELLS + n)) (lentFor n)
+    (lentFor n)
 
-unfoldable pub expected : Run → Outcome
-expected run =
-    let n = length (run .events) in
+unfoldable pub expected : Example → Outcome
+expected example =
+    let n = length (example .events) in
     record {
-      answer = run .answer;
-      workspace = replicate (TABLE-CELLS + n) 0 ++ (9 ∷ []);
-      first = run .order₁ ++ drop (length (run .order₁)) (nines n);
-      second = run .order₂ ++ drop (length (run .order₂)) (nines n);
+      answer = example .answer;
+      workspace = replicate (WORKSPACE-CELLS + n) 0 ++ (9 ∷ []);
+      first = example .order₁ ++ drop (length (example .order₁)) (lentFor n);
+      second = example .order₂ ++ drop (length (example .order₂)) (lentFor n);
     }

@@ -1,10 +1,11 @@
 -- The relations of `Graph` and `Race` as tests, each by a bounded search over positions. The theorems in `proofs/` say that each test is its relation.
 -- Assumes nothing.
 use Prim.Native.Nat.{ℕ, zero, suc}
-use mathlib.Core.Bool.{Bool, true, false, cond, not, _&&_, _||_}
-use mathlib.Core.Option.{Option, none, some}
+use mathlib.Core.Bool.{Bool, false, cond, not, _&&_, _||_}
+use mathlib.Core.Option.{Option, none}
 use lib.Dec.{eqb, ltb}
-use Rattle.trace.specs.Trace.{Trace, FORK, JOIN, HALT, isAccess, conflicting}
+use Rattle.trace.specs.Trace.{Trace, FORK, JOIN, HALT, isAccess}
+use Rattle.trace.specs.Race.{conflicting}
 use Rattle.trace.specs.Orders.{orThis}
 
 -- Some position below n passes the test.
@@ -31,28 +32,30 @@ module _ (tr : Trace) where
   unfoldable pub join? : ℕ → ℕ → Bool
   join? p q = eqb (tr .kind p) HALT && eqb (tr .kind q) JOIN && eqb (tr .operand q) (tr .task p)
 
--- Among the first n events:
-module _ (tr : Trace) (n : ℕ) where
+-- In the graph of the first `graph` events:
+module _ (tr : Trace) (graph : ℕ) where
   unfoldable pub arc? : ℕ → ℕ → Bool
-  arc? p q = ltb p n && ltb q n && (next? tr p q || child? tr p q || join? tr p q)
+  arc? p q = ltb p graph && ltb q graph && (next? tr p q || child? tr p q || join? tr p q)
 
-  -- p is q, or a chain of at most k arcs leads from p to q.
+  -- p is q, or a chain of at most k arcs leads from p to q. A `let` is computed only where it is used: the chain behind an arc is searched only where
+  -- there is one.
   unfoldable pub chain? : ℕ → ℕ → ℕ → Bool
   chain? zero p q = eqb p q
-  chain? (suc k) p q = eqb p q || someBelow n (λ m. let back = chain? k p m in cond (arc? m q) back false)
+  chain? (suc k) p q = eqb p q || someBelow graph (λ m. let back = chain? k p m in cond (arc? m q) back false)
 
   -- No chain has more arcs than there are events: arcs lead forward.
   unfoldable pub reach? : ℕ → ℕ → Bool
-  reach? p q = ltb q n && chain? n p q
+  reach? p q = ltb q graph && chain? graph p q
 
   unfoldable pub conflict? : ℕ → ℕ → Bool
   conflict? p q =
-      ltb p n
-      && ltb q n
+      ltb p graph
+      && ltb q graph
       && isAccess (tr .kind p)
       && isAccess (tr .kind q)
       && eqb (tr .operand p) (tr .operand q)
       && conflicting (tr .kind p) (tr .kind q)
 
+  -- Paths are searched, again by a `let`, only where p and q conflict.
   unfoldable pub race? : ℕ → ℕ → Bool
   race? p q = let unordered = not (reach? p q) && not (reach? q p) in cond (conflict? p q) unordered false

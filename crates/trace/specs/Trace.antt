@@ -11,7 +11,8 @@ pub record Trace : Type 0 where
   pub task : ℕ → ℕ
   pub operand : ℕ → ℕ
 
--- "A trace is three lent slices of one length: kinds, tasks and operands." A position past the end is no event: what is read there is never asked for.
+-- "A trace is three lent slices of one length: kinds (u8), tasks (u16) and operands (u16)." A position past the end is no event: what is read there is
+-- never asked for.
 unfoldable pub traceOf : List ℕ → List ℕ → List ℕ → Trace
 traceOf kinds tasks operands =
     record { kind = λ p. getD kinds p 0; task = λ p. getD tasks p 0; operand = λ p. getD operands p 0 }
@@ -40,10 +41,6 @@ isKind k = leb k HALT
 unfoldable pub isAccess : ℕ → Bool
 isAccess k = eqb k READ || eqb k WRITE
 
--- Which kinds of two accesses to one location conflict: "at least one is a write".
-unfoldable pub conflicting : ℕ → ℕ → Bool
-conflicting j k = eqb j WRITE || eqb k WRITE
-
 -- "a location, 0 to 1,023"
 abbrev pub LOCATIONS : ℕ
 LOCATIONS = 1024
@@ -57,5 +54,5 @@ abbrev pub MAX-EVENTS : ℕ
 MAX-EVENTS = 32768
 
 -- "at least 12,288 cells more than the trace has events"
-abbrev pub TABLE-CELLS : ℕ
-TABLE-CELLS = 12288
+abbrev pub WORKSPACE-CELLS : ℕ
+WORKSPACE-CELLS = 12288
