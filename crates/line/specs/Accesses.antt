@@ -1,0 +1,53 @@
+-- What one access of the running task does to the location tables. For each location l the table AGAINST-READ names a task of the group that a read of l is
+-- held against, and AGAINST-WRITE one that a write is. Assumes nothing.
+use Prim.Native.Nat.{ℕ, _+_, _<_, _≤_}
+use mathlib.Core.Bool.{Bool, true, false, cond, _&&_}
+use mathlib.Core.List.{List}
+use lib.Dec.{eqb}
+use lib.ListN.{length, getD, set}
+use Rattle.trace.specs.Trace.{WRITE, TASKS, LOCATIONS, WORKSPACE-CELLS}
+use Rattle.forest.specs.Forest.{Forest, topOf}
+use Rattle.line.specs.Cells.{AGAINST-READ, AGAINST-WRITE, isLeftIn}
+
+abbrev pub againstRead : List ℕ → ℕ → ℕ
+againstRead c l = getD c (AGAINST-READ + l) 0
+
+abbrev pub againstWrite : List ℕ → ℕ → ℕ
+againstWrite c l = getD c (AGAINST-WRITE + l) 0
+
+-- What `access` asks: the tables name tasks.
+pub record Accessible (c : List ℕ) (x l : ℕ) : Type 0 where
+  pub room : WORKSPACE-CELLS ≤ length c
+  pub forest : Forest c
+  pub task : x < TASKS
+  pub location : l < LOCATIONS
+  pub read-task : againstRead c l < TASKS
+  pub write-task : againstWrite c l < TASKS
+
+-- Whether the access passed the race test, and the cells.
+pub record Accessed : Type 0 where
+  pub passed : Bool
+  pub cells : List ℕ
+
+abbrev pub accessed : Bool → List ℕ → Accessed
+accessed passed c = record { passed = passed; cells = c }
+
+-- The task x is what later accesses are held against: writes, and after a write reads too.
+unfoldable pub settledIn : List ℕ → ℕ → ℕ → ℕ → List ℕ
+settledIn c x kind l =
+    let write = set c (AGAINST-WRITE + l) x in
+    cond (eqb kind WRITE) (set write (AGAINST-READ + l) x) write
+
+-- The groups stay, each named by its top.
+unfoldable pub toppedIn : List ℕ → ℕ → List ℕ
+toppedIn c l = set (set c (AGAINST-WRITE + l) (topOf c (againstWrite c l))) (AGAINST-READ + l) (topOf c (againstRead c l))
+
+-- The group that a write is held against is left of the running task.
+unfoldable pub behindIn : List ℕ → ℕ → ℕ → Accessed
+behindIn c kind l = cond (eqb kind WRITE) (accessed false c) (cond (isLeftIn c (againstRead c l)) (accessed false c) (accessed true (toppedIn c l)))
+
+-- An access of kind `kind` of the location l by the running task x. A failed one leaves the cells.
+unfoldable pub accessIn : List ℕ → ℕ → ℕ → ℕ → Accessed
+accessIn c x kind l =
+    cond (eqb (againstWrite c l) x && eqb (againstRead c l) x) (accessed true c)
+    (cond (isLeftIn c (againstWrite c l)) (behindIn c kind l) (accessed true (settledIn c x kind l)))

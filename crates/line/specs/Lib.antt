@@ -1,0 +1,6 @@
+-- The definitions that the contracts cite, in the order in which to read them.
+pub mod Rules
+pub mod Cells
+pub mod Steps
+pub mod Accesses
+pub mod Held
