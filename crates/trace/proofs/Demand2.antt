@@ -183,6 +183,10 @@ module _ (tr : Trace) (n : ℕ) where
       both : {s t s′ t′ : ℕ} → _≡_ {A = Reply Verdict} (says (race s′ t′)) (says (race s t)) → (s ≡ s′) × (t ≡ t′)
       both e = (cc, cc)
 
+  -- Where all events keep the rules and none races with an earlier one, the answer is clean.
+  pub judgement-clean : KeepsRules tr n → NoRaceBefore tr graph n → judgement haltOperand tr n ≡ says clean
+  judgement-clean k calm = answer-clean (means-clean k calm) (judgement haltOperand tr n) judgement-means
+
   -- DEMAND 2.
   pub demand-2 : Demand2 tr n (judgement haltOperand tr n)
   demand-2 =

@@ -1,0 +1,14 @@
+-- `judge::report::conflicts` meets its contract. Assumes nothing.
+use native.Mathlib.Omega.{arith}
+use Rattle.judge.proofs.ReportingPartner.{access-small, other-location, no-access, one-writes}
+use Rattle.judge.proofs.report.conflicts.Statement.{statement}
+use Rattle.judge.proofs.report.conflicts.Tie as tie
+
+pub conflicts-spec : {M : Type 1} → statement M
+conflicts-spec =
+    tie.close
+    (tie.spec
+    (λ c. search other-location)
+    (λ c. search no-access)
+    (λ c. omega (arith, access-small _ (c .before .before .pre)))
+    (λ c. search one-writes))

@@ -1,0 +1,18 @@
+-- `judge::rules::advance` meets its contract: the law of one event. Assumes nothing.
+use borrow.Author.Needs.{needs}
+use Rattle.judge.proofs.Walking.{event-says}
+use Rattle.judge.proofs.rules.advance.Statement.{statement}
+use Rattle.judge.proofs.rules.advance.Tie as tie
+
+pub advance-spec : {M : Type 1} → statement M
+advance-spec =
+    tie.close
+    (tie.spec
+    (λ c. search needs)
+    (λ c. search needs)
+    (λ c. search needs)
+    (λ c. search needs)
+    (λ c. search needs)
+    (λ c κs. search needs)
+    (λ c. search needs)
+    (λ c. search event-says))

@@ -1,0 +1,12 @@
+-- `text::events::halt_operand` meets its contract. Assumes nothing.
+use mathlib.Core.Path.{refl}
+use Rattle.text.specs.Translation.{haltOperand}
+use Rattle.text.proofs.events.halt_operand.Statement.{statement}
+use Rattle.text.proofs.events.halt_operand.Tie as tie
+
+returns : tie.Need-returns
+unfolding haltOperand
+returns c = refl
+
+pub halt-operand-spec : {M : Type 1} → statement M
+halt-operand-spec = tie.close (tie.spec returns)

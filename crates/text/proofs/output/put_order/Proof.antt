@@ -1,0 +1,20 @@
+-- `text::output::put_order` meets its contract: no cell, or the first and the rest. Assumes nothing.
+use borrow.Author.Needs.{needs}
+use Rattle.text.proofs.Rendering.{order-empty, order-line}
+use Rattle.text.proofs.output.put_order.Statement.{statement}
+use Rattle.text.proofs.output.put_order.Tie as tie
+
+pub put-order-spec : {M : Type 1} → statement M
+put-order-spec =
+    tie.close
+    (tie.spec
+    (λ c κs. search needs)
+    (λ c κs. search needs)
+    (λ c. search needs)
+    (λ c. search order-empty)
+    (λ c. search needs)
+    (λ c κs. search needs)
+    (λ c κs. search needs)
+    (λ c κs. search needs)
+    (λ c. search needs)
+    (λ c. search order-line))

@@ -1,0 +1,105 @@
+-- What each answer of the code says: document 01's number and values for the translation's, the token and the bytes after it for the cursor's, and
+-- what the stack holds for the inner functions. The promises go through these. Assumes nothing.
+use Prim.Native.Nat.{ℕ, zero, suc, _+_, _-_, _≤_}
+use mathlib.Core.Path.{_≡_}
+use mathlib.Core.Bool.{cond}
+use mathlib.Core.List.{List, [], _∷_}
+use mathlib.Core.Option.{Option, none, some}
+use lib.Dec.{ltb}
+use lib.ListN.{length, getD, drop}
+use Rattle.trace.specs.Outcome.{Reply, says, refused}
+use Rattle.text.specs.Reading.{Token}
+use Rattle.text.specs.Translation.{Event, eventsOf, stackAfter, MAX-TEXT-EVENTS, refusal, Slices, storeAll, Translated}
+use Rattle.text.specs.declared.cursor.Line.{Line}
+use Rattle.text.specs.declared.cursor.Operation.{Operation}
+use Rattle.text.specs.declared.cursor.Numeral.{Numeral}
+use Rattle.text.specs.declared.cursor.Numeral.the-variants.{Number, Stop}
+use Rattle.text.specs.declared.cursor.WordToken.{WordToken}
+use Rattle.text.specs.declared.cursor.WordToken.the-variants.{Matched, Mismatch}
+use Rattle.text.specs.declared.cursor.NumberToken.{NumberToken}
+use Rattle.text.specs.declared.cursor.NumberToken.the-variants.{Value, NoNumber}
+use Rattle.text.specs.declared.cursor.OperationToken.{OperationToken}
+use Rattle.text.specs.declared.cursor.OperationToken.the-variants.{Known, NoOperation}
+use Rattle.text.specs.declared.cursor.LineToken.{LineToken}
+use Rattle.text.specs.declared.cursor.LineToken.the-variants.{Whole, Malformed}
+use Rattle.text.specs.declared.events.Added.{Added}
+use Rattle.text.specs.declared.events.Added.the-variants.{To, TooMany}
+use Rattle.text.specs.declared.Translation.{Translation}
+use Rattle.text.specs.declared.Translation.the-variants.{Events, Refused}
+
+-- ---- the translation
+
+-- The number of events, or refused number position.
+unfoldable pub translationReply : Translation → Reply ℕ
+translationReply (Events count) = says count
+translationReply (Refused r) = refusal r
+
+-- An answer with the slices that it leaves.
+abbrev pub translatedOf : Translation → Slices → Translated
+translatedOf r b = record { answer = translationReply r; slices = b }
+
+-- The same where only an accepted text says what the slices hold.
+abbrev pub attemptOf : Translation → Slices → Reply (ℕ × Slices)
+attemptOf (Events count) b = says (count, b)
+attemptOf (Refused r) b = refusal r
+
+-- The events, stored from position `count` on.
+abbrev pub attempted : Reply (List Event) → ℕ → Slices → Reply (ℕ × Slices)
+attempted (says es) count b = says (count + length es, storeAll b count es)
+attempted (refused number position) count b = refused number position
+
+-- ---- the cursor's tokens
+
+abbrev pub numeralOf : Numeral → Option ℕ
+numeralOf (Number n) = some n
+numeralOf Stop = none
+
+abbrev pub afterWord : List ℕ → WordToken → Option (List ℕ)
+afterWord text (Matched next) = some (drop (next .at) text)
+afterWord text Mismatch = none
+
+abbrev pub afterNumber : List ℕ → NumberToken → Token ℕ
+afterNumber text (Value n next) = some (n, drop (next .at) text)
+afterNumber text NoNumber = none
+
+abbrev pub afterOperation : List ℕ → OperationToken → Token Operation
+afterOperation text (Known o next) = some (o, drop (next .at) text)
+afterOperation text NoOperation = none
+
+abbrev pub afterLine : List ℕ → LineToken → Token Line
+afterLine text (Whole l next) = some (l, drop (next .at) text)
+afterLine text Malformed = none
+
+-- ---- the stack of tasks on cells
+
+-- The tasks of the first `depth` cells, the last one on top.
+abbrev pub tasksOf : List ℕ → ℕ → List ℕ
+tasksOf cells zero = []
+tasksOf cells (suc depth) = getD cells depth 0 ∷ tasksOf cells depth
+
+-- The stack has room for task 0 and a task for each event.
+abbrev pub STACK-CELLS : ℕ
+STACK-CELLS = 2049
+
+-- The stack as the lines so far leave it, after `count` events.
+pub record StackAfter (count depth : ℕ) (cells : List ℕ) : Type 0 where
+  pub counted : count ≤ MAX-TEXT-EVENTS
+  pub deep : depth ≤ count + 1
+  pub room : length cells ≡ STACK-CELLS
+
+-- The tasks from depth `base` to `depth` can halt, from event `from` on.
+pub record HaltsFit (base depth from : ℕ) : Type 0 where
+  pub over : base ≤ depth
+  pub within : depth ≤ STACK-CELLS
+  pub fit : from + (depth - base) ≤ MAX-TEXT-EVENTS
+
+-- What a line leaves, where `count` events came before it: the number of events, the slices and the stack; nothing where its events are too many.
+unfoldable pub added : Line → List ℕ → ℕ → Slices → Option (ℕ × Slices × List ℕ)
+added l stack count b =
+    cond (ltb MAX-TEXT-EVENTS (count + length (eventsOf stack l)))
+    none
+    (some (count + length (eventsOf stack l), storeAll b count (eventsOf stack l), stackAfter stack l))
+
+abbrev pub addedOf : Added → List ℕ → Slices → Option (ℕ × Slices × List ℕ)
+addedOf (To count depth) cells b = some (count, b, tasksOf cells depth)
+addedOf TooMany cells b = none

@@ -1,0 +1,63 @@
+-- The text form (document 01, "The text form"), by printing: a text is of the form exactly if it is the printed lines of some list of lines.
+-- Bytes are ASCII codes. Assumes nothing.
+use Prim.Native.Nat.{ℕ, zero, suc, _+_, _/_, _%_, _≤_}
+use mathlib.Core.Path.{_≡_}
+use mathlib.Core.Bool.{cond}
+use mathlib.Core.List.{List, [], _∷_, _++_}
+use lib.Dec.{ltb}
+use Rattle.text.specs.declared.cursor.Line.{Line}
+use Rattle.text.specs.declared.cursor.Operation.{Operation}
+use Rattle.text.specs.declared.cursor.Operation.the-variants.{Read, Write, Fork, Join}
+
+-- n in base ten with no leading zero, in at most `suc more` digits.
+abbrev pub digits : ℕ → ℕ → List ℕ
+digits zero n = (48 + n) ∷ []
+digits (suc more) n = cond (ltb n 10) ((48 + n) ∷ []) (digits more (n / 10) ++ ((48 + n % 10) ∷ []))
+
+-- "decimal, .. with no leading zero". Twenty digits are enough for every number below 2 to the power of 64.
+unfoldable pub decimal : ℕ → List ℕ
+decimal n = digits 19 n
+
+-- "0 to 65,535"
+abbrev pub GREATEST : ℕ
+GREATEST = 65535
+
+-- `r(V`, `w(V`, `fork(T`, `join(T`: an operation up to the letter of its operand.
+abbrev pub opening : Operation → List ℕ
+opening Read = 114 ∷ 40 ∷ 86 ∷ []
+opening Write = 119 ∷ 40 ∷ 86 ∷ []
+opening Fork = 102 ∷ 111 ∷ 114 ∷ 107 ∷ 40 ∷ 84 ∷ []
+opening Join = 106 ∷ 111 ∷ 105 ∷ 110 ∷ 40 ∷ 84 ∷ []
+
+-- "`Ta|r(Vb)|c`, `Ta|w(Vb)|c`, `Ta|fork(Tb)|c`, `Ta|join(Tb)|c`, each ended by a line feed"
+abbrev pub print : Line → List ℕ
+print l =
+    84
+    ∷ (decimal (l .task)
+    ++ (124 ∷ (opening (l .operation) ++ (decimal (l .operand) ++ (41 ∷ 124 ∷ (decimal (l .source) ++ (10 ∷ [])))))))
+
+-- "Each number is decimal, 0 to 65,535"
+pub record InRange (l : Line) : Type 0 where
+  pub task : l .task ≤ GREATEST
+  pub operand : l .operand ≤ GREATEST
+  pub source : l .source ≤ GREATEST
+
+pub data AllInRange : List Line → Type 0 where
+  no-line : AllInRange []
+  one-more : {l : Line} {lines : List Line} → InRange l → AllInRange lines → AllInRange (l ∷ lines)
+
+-- The lines of a text, one after the other.
+abbrev pub printAll : List Line → List ℕ
+printAll [] = []
+printAll (l ∷ lines) = print l ++ printAll lines
+
+-- A text is of the form: it is the print of some lines.
+pub record OfForm (text : List ℕ) : Type 0 where
+  pub lines : List Line
+  pub in-range : AllInRange lines
+  pub printed : text ≡ printAll lines
+
+-- "a line isn't of the text form": these bytes begin with the print of no line, though there are some.
+pub record BeginsWithNoLine (rest : List ℕ) : Type 0 where
+  pub some-left : rest ≡ [] → ⊥
+  pub no-line : (l : Line) (after : List ℕ) → InRange l → rest ≡ print l ++ after → ⊥

@@ -1,0 +1,155 @@
+-- Texts to go by, computed: document 01's example from its text to its whole output, the implied halts, and a text for each way to be refused.
+-- Assumes nothing.
+use Prim.Native.Nat.{ℕ, zero, suc}
+use mathlib.Core.Path.{_≡_, refl}
+use mathlib.Core.List.{List, [], _∷_, _++_, map}
+use lib.ListN.{replicate}
+use Rattle.trace.specs.Trace.{traceOf, isKind, isAccess}
+use Rattle.trace.specs.Race.{conflicting}
+use Rattle.trace.specs.Line.{row, start, isEmpty, isHead, isMember, isLeftOf, putLeftOf, remove, forked, joined, halted, stepByKind, step}
+use Rattle.trace.specs.Line.{stepAfter, lineAfter}
+use Rattle.trace.specs.Line.{haltOperand as Line·haltOperand}
+use Rattle.trace.specs.Graph.{isPassed, graphEvents}
+use Rattle.trace.specs.Search.{someBelow, leastBelow, next?, child?, join?, arc?, chain?, reach?, conflict?, race?}
+use Rattle.trace.specs.Outcome.{says, refused, clean, orElse, raceWith, partner, failureAt, firstFailure, atEnd, orAtEnd, judgement, inD?}
+use Rattle.trace.specs.Outcome.{sizes, orderRoom, cleared, Outcome, firstOrder, secondOrder, judgeChecked, judgeOutcome}
+use Rattle.text.specs.Form.{decimal, printAll}
+use Rattle.text.specs.Reading.{digit, isWhole, tooLarge, extended, field, line, parse}
+use Rattle.text.specs.Translation.{Event, haltOperand, eventsOf, stackAfter, translation}
+use Rattle.text.specs.Output.{orderLines, output}
+use Rattle.text.specs.declared.cursor.Line.{Line}
+use Rattle.text.specs.declared.cursor.Operation.{Operation}
+use Rattle.text.specs.declared.cursor.Operation.the-variants.{Read, Write, Fork, Join}
+
+abbrev lineOf : ℕ → Operation → ℕ → ℕ → Line
+lineOf task operation operand source = record { task = task; operation = operation; operand = operand; source = source }
+
+abbrev event : ℕ → ℕ → ℕ → Event
+event kind task operand = record { kind = kind; task = task; operand = operand }
+
+-- ---- document 01's example
+
+-- `T0|fork(T1)|10`, `T1|w(V5)|20`, `T0|r(V5)|30`
+abbrev example : List ℕ
+example =
+    84 ∷ 48 ∷ 124 ∷ 102 ∷ 111 ∷ 114 ∷ 107 ∷ 40 ∷ 84 ∷ 49 ∷ 41 ∷ 124 ∷ 49 ∷ 48 ∷ 10
+    ∷ 84 ∷ 49 ∷ 124 ∷ 119 ∷ 40 ∷ 86 ∷ 53 ∷ 41 ∷ 124 ∷ 50 ∷ 48 ∷ 10
+    ∷ 84 ∷ 48 ∷ 124 ∷ 114 ∷ 40 ∷ 86 ∷ 53 ∷ 41 ∷ 124 ∷ 51 ∷ 48 ∷ 10
+    ∷ []
+
+pub example-of-form : example ≡ printAll (lineOf 0 Fork 1 10 ∷ lineOf 1 Write 5 20 ∷ lineOf 0 Read 5 30 ∷ [])
+unfolding decimal
+example-of-form = refl
+
+abbrev exampleEvents : List Event
+exampleEvents = event 2 0 1 ∷ event 1 1 5 ∷ event 4 1 0 ∷ event 0 0 5 ∷ []
+
+-- "Event 2 is the implied halt."
+pub example-translated : translation example ≡ says exampleEvents
+unfolding translation parse line field digit isWhole tooLarge extended eventsOf haltOperand stackAfter
+example-translated = refl
+
+-- `race 1 3`, `0 1 3 2`, `0 3 1 2`
+abbrev exampleOutput : List ℕ
+exampleOutput =
+    114 ∷ 97 ∷ 99 ∷ 101 ∷ 32 ∷ 49 ∷ 32 ∷ 51 ∷ 10
+    ∷ 48 ∷ 32 ∷ 49 ∷ 32 ∷ 51 ∷ 32 ∷ 50 ∷ 10
+    ∷ 48 ∷ 32 ∷ 51 ∷ 32 ∷ 49 ∷ 32 ∷ 50 ∷ 10
+    ∷ []
+
+-- What the judge answers and leaves, of these events.
+abbrev judged : Outcome
+judged =
+    judgeOutcome
+    (map (λ e. e .kind) exampleEvents)
+    (map (λ e. e .task) exampleEvents)
+    (map (λ e. e .operand) exampleEvents)
+    (replicate 12292 0)
+    (replicate 4 0)
+    (replicate 4 0)
+
+-- "the whole output is"
+pub example-output : output (judged .answer) 4 (judged .first) (judged .second) ≡ exampleOutput
+unfolding output orderLines decimal judgeOutcome judgeChecked orderRoom sizes row traceOf graphEvents isPassed lineAfter stepAfter
+    step stepByKind start isKind isEmpty isHead isMember isLeftOf putLeftOf remove forked joined halted isAccess Line·haltOperand
+    judgement orAtEnd atEnd firstFailure orElse failureAt raceWith partner leastBelow race? conflict? conflicting reach? chain?
+    arc? next? child? join? someBelow firstOrder secondOrder inD? cleared
+example-output = refl
+
+-- ---- implied halts
+
+-- `T0|fork(T1)|1`, `T1|fork(T2)|2`, `T0|r(V5)|3`: the halts of 2 and 1, top first.
+pub halts-top-first : translation (printAll (lineOf 0 Fork 1 1 ∷ lineOf 1 Fork 2 2 ∷ lineOf 0 Read 5 3 ∷ []))
+    ≡ says (event 2 0 1 ∷ event 2 1 2 ∷ event 4 2 0 ∷ event 4 1 0 ∷ event 0 0 5 ∷ [])
+unfolding translation parse line field digit isWhole tooLarge extended decimal eventsOf haltOperand stackAfter
+halts-top-first = refl
+
+-- `T0|fork(T1)|1`, `T1|fork(T0)|2`, `T0|w(V5)|3`, `T7|join(T1)|4`: 0 stands on top of the stack again, and 7 nowhere. Nothing is added at the end.
+pub no-halts : translation (printAll (lineOf 0 Fork 1 1 ∷ lineOf 1 Fork 0 2 ∷ lineOf 0 Write 5 3 ∷ lineOf 7 Join 1 4 ∷ []))
+    ≡ says (event 2 0 1 ∷ event 2 1 0 ∷ event 1 0 5 ∷ event 3 7 1 ∷ [])
+unfolding translation parse line field digit isWhole tooLarge extended decimal eventsOf haltOperand stackAfter
+no-halts = refl
+
+-- ---- row 14
+
+-- `T0|r(5)|1`: no letter before the operand.
+pub no-letter : translation (84 ∷ 48 ∷ 124 ∷ 114 ∷ 40 ∷ 53 ∷ 41 ∷ 124 ∷ 49 ∷ 10 ∷ []) ≡ refused 14 0
+unfolding translation parse line field digit isWhole tooLarge extended
+no-letter = refl
+
+-- `T00|r(V5)|1`: a leading zero, on line 3 after the example.
+pub leading-zero : translation (example ++ (84 ∷ 48 ∷ 48 ∷ 124 ∷ 114 ∷ 40 ∷ 86 ∷ 53 ∷ 41 ∷ 124 ∷ 49 ∷ 10 ∷ [])) ≡ refused 14 3
+unfolding translation parse line field digit isWhole tooLarge extended eventsOf haltOperand stackAfter
+leading-zero = refl
+
+-- `T0|r(V5)|65536`: a number above 65,535.
+pub too-large : translation (84 ∷ 48 ∷ 124 ∷ 114 ∷ 40 ∷ 86 ∷ 53 ∷ 41 ∷ 124 ∷ 54 ∷ 53 ∷ 53 ∷ 51 ∷ 54 ∷ 10 ∷ []) ≡ refused 14 0
+unfolding translation parse line field digit isWhole tooLarge extended
+too-large = refl
+
+-- `T0|r(V5)|1`: the last line has no line feed.
+pub no-line-feed : translation (84 ∷ 48 ∷ 124 ∷ 114 ∷ 40 ∷ 86 ∷ 53 ∷ 41 ∷ 124 ∷ 49 ∷ []) ≡ refused 14 0
+unfolding translation parse line field digit isWhole tooLarge extended
+no-line-feed = refl
+
+-- An empty line, on line 3 after the example.
+pub empty-line : translation (example ++ (10 ∷ [])) ≡ refused 14 3
+unfolding translation parse line field digit isWhole tooLarge extended eventsOf haltOperand stackAfter
+empty-line = refl
+
+-- The greatest number is taken.
+pub greatest-number : translation (printAll (lineOf 65535 Read 65535 65535 ∷ [])) ≡ says (event 0 65535 65535 ∷ [])
+unfolding translation parse line field digit isWhole tooLarge extended decimal eventsOf haltOperand stackAfter
+greatest-number = refl
+
+-- No text, no event.
+pub empty-text : translation [] ≡ says []
+unfolding translation parse
+empty-text = refl
+
+-- ---- row 15
+
+abbrev reads : ℕ → List Line
+reads zero = []
+reads (suc n) = lineOf 0 Read 1 1 ∷ reads n
+
+-- "2,049 reads by T0"
+pub too-many-reads : translation (printAll (reads 2049)) ≡ refused 15 2048
+unfolding translation parse line field digit isWhole tooLarge extended decimal eventsOf haltOperand stackAfter
+too-many-reads = refl
+
+-- A line that is not of the form makes no events: 14 and not 15, though 2,048 events came before it.
+pub malformed-after-all : translation (printAll (reads 2048) ++ (84 ∷ [])) ≡ refused 14 2048
+unfolding translation parse line field digit isWhole tooLarge extended decimal eventsOf haltOperand stackAfter
+malformed-after-all = refl
+
+-- ---- the other outputs
+
+-- `clean 0` and `refused 14 3`, with their line feeds.
+pub clean-output : output (says clean) 0 [] [] ≡ 99 ∷ 108 ∷ 101 ∷ 97 ∷ 110 ∷ 32 ∷ 48 ∷ 10 ∷ []
+unfolding output decimal
+clean-output = refl
+
+pub refused-output : output (refused 14 3) 0 [] [] ≡ 114 ∷ 101 ∷ 102 ∷ 117 ∷ 115 ∷ 101 ∷ 100 ∷ 32 ∷ 49 ∷ 52 ∷ 32 ∷ 51 ∷ 10 ∷ []
+unfolding output decimal
+refused-output = refl

@@ -1,0 +1,132 @@
+// The library behind the program that reads trace text: `translate` turns a text into the three slices of a trace, `render` an answer into the
+// program's output.
+mod cursor;
+mod events;
+pub mod limits;
+mod output;
+mod reader;
+
+use crate::cursor::LineToken;
+use crate::events::Added;
+use crate::limits::MAX_EVENTS;
+use crate::limits::OUTPUT_BYTES;
+use crate::limits::STACK_CELLS;
+use trace::Answer;
+use trace::Refusal;
+ghost use mathlib.Core.Path.{_≡_};
+ghost use Rattle.trace.specs.Answers.{judgeReply};
+ghost use Rattle.text.specs.Translation.{malformedAt, tooManyAt, translation, translated, slices};
+ghost use Rattle.text.specs.Answers.{attemptOf, attempted, translatedOf};
+ghost use Rattle.text.specs.Output.{buffer, rendered};
+
+// What a text comes to: the number of its events, or why it is turned back.
+pub enum Translation {
+    Events(usize),
+    Refused(Refusal),
+}
+
+// "the line's number from 0"
+const FIRST_LINE: usize = 0;
+
+// Row 14: the line is not of the text form.
+fn malformed(line: usize) -> Refusal
+    ensures { λ r. ⌜ r ≡ malformedAt line ⌝ }
+{
+    Refusal {
+        number: 14,
+        position: line,
+    }
+}
+
+// Row 15: with this line the text makes over 2,048 events.
+fn too_many(line: usize) -> Refusal
+    ensures { λ r. ⌜ r ≡ tooManyAt line ⌝ }
+{
+    Refusal {
+        number: 15,
+        position: line,
+    }
+}
+
+// The events of a text, stored from the start of the three slices; after a refusal the slices hold anything.
+fn translate_into(
+    text: &[u8],
+    kinds: &mut [u8; MAX_EVENTS],
+    tasks: &mut [u16; MAX_EVENTS],
+    operands: &mut [u16; MAX_EVENTS],
+) -> Translation
+    ensures { λ r. ⌜ attemptOf r (slices (now (kinds .exit)) (now (tasks .exit)) (now (operands .exit)))
+        ≡ attempted (translation (now (text .entry))) 0 (slices (now (kinds .entry)) (now (tasks .entry)) (now (operands .entry))) ⌝ }
+{
+    let mut stack = [0u16; STACK_CELLS];
+    let mut depth: usize = 1;
+    let mut count: usize = 0;
+    let mut at: usize = 0;
+    let mut line: usize = FIRST_LINE;
+    while at < text.len() {
+        let LineToken::Whole(read, next) = reader::line_from(text, at) else {
+            return Translation::Refused(malformed(line));
+        };
+        let Added::To(more, left) = events::add_line(
+            read,
+            &mut stack,
+            depth,
+            kinds,
+            tasks,
+            operands,
+            count,
+        ) else {
+            return Translation::Refused(too_many(line));
+        };
+        at = next.at;
+        count = more;
+        depth = left;
+        line += 1;
+    }
+    Translation::Events(count)
+}
+
+// The events of a text, and how many there are. A refusal leaves the slices as they were: the text is translated to spare ones first.
+pub fn translate(
+    text: &[u8],
+    kinds: &mut [u8; MAX_EVENTS],
+    tasks: &mut [u16; MAX_EVENTS],
+    operands: &mut [u16; MAX_EVENTS],
+) -> Translation
+    ensures { λ r. ⌜ translatedOf r (slices (now (kinds .exit)) (now (tasks .exit)) (now (operands .exit)))
+        ≡ translated (now (text .entry)) (slices (now (kinds .entry)) (now (tasks .entry)) (now (operands .entry))) ⌝ }
+{
+    let mut spare_kinds = [0u8; MAX_EVENTS];
+    let mut spare_tasks = [0u16; MAX_EVENTS];
+    let mut spare_operands = [0u16; MAX_EVENTS];
+    let spare = translate_into(
+        text,
+        &mut spare_kinds,
+        &mut spare_tasks,
+        &mut spare_operands,
+    );
+    let Translation::Events(_) = spare else {
+        return spare;
+    };
+    translate_into(text, kinds, tasks, operands)
+}
+
+// The program's output for an answer about a trace of `count` events, and the number of its bytes; nothing where the buffer is shorter than
+// OUTPUT_BYTES or the race stands past 2,048 events.
+pub fn render(answer: Answer, count: usize, first: &[u16], second: &[u16], out: &mut [u8]) -> usize
+    ensures { λ r. ⌜ buffer (now (out .exit)) r ≡ rendered (judgeReply answer) count (now (first .entry)) (now (second .entry)) (now (out .entry)) ⌝ }
+{
+    if out.len() < OUTPUT_BYTES {
+        return 0;
+    }
+    match answer {
+        Answer::Clean => output::put_clean(out, count),
+        Answer::Race(s, t) => {
+            if MAX_EVENTS <= t {
+                return 0;
+            }
+            output::put_race(out, s, t, first, second)
+        }
+        Answer::Refused(refusal) => output::put_refused(out, refusal.number, refusal.position),
+    }
+}
