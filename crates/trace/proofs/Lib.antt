@@ -1,5 +1,5 @@
 -- The theory of the definitions in `specs/`, with no code in sight. The headline theorems stand in Demand1, Demand2, Demand3, OrderingCall, LaterEvents,
--- PairMatters, OrderLemma and AccessLemma; Table holds the computed † runs.
+-- PairMatters, OrderLemma and AccessLemma; Table holds the computed † runs and examples of refusals.
 pub mod Tests
 pub mod Lists
 pub mod Stacks

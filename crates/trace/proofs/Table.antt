@@ -1,14 +1,34 @@
--- The † runs of document 01 are judged as document 01 says: one computed fact about the whole table. Assumes nothing.
+-- The † runs of document 01 and the examples of its table of refusals are judged as document 01 says: one computed fact about each table. Row 13, which
+-- is the ordering call's, has the fact after them. Assumes nothing.
 use mathlib.Core.Path.{_≡_, refl}
-use mathlib.Core.List.{map}
-use Rattle.trace.specs.Trace.{traceOf, isKind, isAccess}
+use mathlib.Core.List.{[], _∷_, _++_, map}
+use lib.ListN.{replicate}
+use Rattle.trace.specs.Trace.{traceOf, isKind, isAccess, WORKSPACE-CELLS}
 use Rattle.trace.specs.Race.{conflicting}
 use Rattle.trace.specs.Line.{row, start, isEmpty, isHead, isMember, isLeftOf, putLeftOf, remove, forked, joined, halted, haltOperand, stepByKind, step, stepAfter, lineAfter}
 use Rattle.trace.specs.Graph.{isPassed, graphEvents}
 use Rattle.trace.specs.Search.{someBelow, leastBelow, next?, child?, join?, arc?, chain?, reach?, conflict?, race?}
-use Rattle.trace.specs.Outcome.{orElse, raceWith, partner, failureAt, firstFailure, atEnd, orAtEnd, judgement, inD?, sizes, orderRoom, cleared, firstOrder, secondOrder, judgeChecked, judgeOutcome}
-use Rattle.trace.specs.Runs.{runs, lentFor, judged, expected}
+use Rattle.trace.specs.Outcome.{refused, Outcome, orElse, raceWith, partner, failureAt, firstFailure, atEnd, orAtEnd, judgement, inD?, sizes, orderRoom, cleared, firstOrder, secondOrder, judgeChecked, judgeOutcome, orderingSaid, ordering, orderingChecked, orderingOutcome}
+use Rattle.trace.specs.Runs.{Example, runs, lentFor, judged, expected}
+use Rattle.trace.specs.Refusals.{examples}
 
+-- Every definition that `judged` computes by: to unfold this one is to unfold them all.
+computed : Example → Outcome
+unfolding traceOf isKind isAccess conflicting row start isEmpty isHead isMember isLeftOf putLeftOf remove forked joined halted haltOperand stepByKind step stepAfter lineAfter isPassed graphEvents someBelow leastBelow next? child? join? arc? chain? reach? conflict? race? orElse raceWith partner failureAt firstFailure atEnd orAtEnd judgement inD? sizes orderRoom cleared firstOrder secondOrder judgeChecked judgeOutcome lentFor judged
+computed = judged
+
+-- The † runs.
 pub runs-as-expected : map judged runs ≡ map expected runs
-unfolding traceOf isKind isAccess conflicting row start isEmpty isHead isMember isLeftOf putLeftOf remove forked joined halted haltOperand stepByKind step stepAfter lineAfter isPassed graphEvents someBelow leastBelow next? child? join? arc? chain? reach? conflict? race? orElse raceWith partner failureAt firstFailure atEnd orAtEnd judgement inD? sizes orderRoom cleared firstOrder secondOrder judgeChecked judgeOutcome runs lentFor judged expected
+unfolding computed runs expected
 runs-as-expected = refl
+
+-- The examples of rows 1 to 12.
+pub examples-as-expected : map judged examples ≡ map expected examples
+unfolding computed examples expected
+examples-as-expected = refl
+
+-- Row 13: "empty trace, p = 0".
+pub beyond-as-expected :
+    orderingOutcome [] [] [] (lentFor 1 WORKSPACE-CELLS) 0 0 ≡ record { answer = refused 13 0; workspace = replicate WORKSPACE-CELLS 0 ++ (9 ∷ []) }
+unfolding computed orderingSaid ordering orderingChecked orderingOutcome
+beyond-as-expected = refl

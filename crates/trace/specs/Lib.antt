@@ -9,3 +9,4 @@ pub mod Outcome
 pub mod Demands
 pub mod Answers
 pub mod Runs
+pub mod Refusals

@@ -1,6 +1,6 @@
 -- The runs of document 01 that are marked † ("Runs to go by"), as one table of trace and outcome, judged by the very function that the judge's contract
 -- cites. Assumes nothing.
-use Prim.Native.Nat.{ℕ, suc, _+_}
+use Prim.Native.Nat.{ℕ, _+_}
 use mathlib.Core.List.{List, [], _∷_, _++_, map}
 use lib.ListN.{length, drop, replicate}
 use Rattle.trace.specs.Trace.{READ, WRITE, FORK, JOIN, HALT, WORKSPACE-CELLS}
@@ -32,18 +32,46 @@ x join a = record { task = x; kind = JOIN; operand = a }
 abbrev pub _halt : ℕ → Event
 x halt = record { task = x; kind = HALT; operand = 0 }
 
--- A trace, its answer, and the two orders that it leaves (none but after a race).
-pub record Example : Type 0 where
-  pub events : List Event
-  pub answer : Reply Verdict
-  pub order₁ : List ℕ
-  pub order₂ : List ℕ
+-- What is lent where n cells are needed: so many cells more, and 9 in every cell.
+unfoldable pub lentFor : ℕ → ℕ → List ℕ
+lentFor spare n = replicate (n + spare) 9
 
-abbrev gives : List Event → Reply Verdict → Example
-gives events answer = record { events = events; answer = answer; order₁ = []; order₂ = [] }
+-- What is lent to the judge, and the outcome that document 01 names.
+pub record Example : Type 0 where
+  pub kinds : List ℕ
+  pub tasks : List ℕ
+  pub operands : List ℕ
+  pub workspace : List ℕ
+  pub first : List ℕ
+  pub second : List ℕ
+  pub outcome : Outcome
+
+-- The cells to spare, a trace, its answer past rows 1 to 4, and the two orders that it leaves (none but after a race).
+abbrev pub example : ℕ → List Event → Reply Verdict → List ℕ → List ℕ → Example
+example spare events answer order₁ order₂ =
+    let n = length events in
+    record {
+      kinds = map (λ e. e .kind) events;
+      tasks = map (λ e. e .task) events;
+      operands = map (λ e. e .operand) events;
+      workspace = lentFor spare (WORKSPACE-CELLS + n);
+      first = lentFor spare n;
+      second = lentFor spare n;
+      outcome =
+          record {
+            answer = answer;
+            workspace = replicate (WORKSPACE-CELLS + n) 0 ++ replicate spare 9;
+            first = order₁ ++ drop (length order₁) (lentFor spare n);
+            second = order₂ ++ drop (length order₂) (lentFor spare n);
+          };
+    }
+
+-- With one cell to spare:
+abbrev pub gives : List Event → Reply Verdict → Example
+gives events answer = example 1 events answer [] []
 
 abbrev races : List Event → ℕ → ℕ → List ℕ → List ℕ → Example
-races events s t order₁ order₂ = record { events = events; answer = says (race s t); order₁ = order₁; order₂ = order₂ }
+races events s t order₁ order₂ = example 1 events (says (race s t)) order₁ order₂
 
 unfoldable pub runs : List Example
 runs =
@@ -65,24 +93,9 @@ runs =
     ∷ gives (0 fork 1 ∷ 1 read 7 ∷ 1 halt ∷ 0 read 7 ∷ 0 fork 2 ∷ 2 join 1 ∷ 2 halt ∷ 0 join 2 ∷ 0 write 7 ∷ []) (says clean)
     ∷ []
 
--- What is lent where n cells are needed: one cell more, and 9 in every cell.
-unfoldable pub lentFor : ℕ → List ℕ
-lentFor n = replicate (suc n) 9
-
--- What the judge's outcome is, and what document 01 says that it is.
+-- The judge's outcome for what is lent, and the one that document 01 names.
 unfoldable pub judged : Example → Outcome
-judged example =
-    let events = example .events in
-    let n = length events in
-    judgeOutcome (map (λ e. e .kind) events) (map (λ e. e .task) events) (map (λ e. e .operand) events) (lentFor (WORKSPACE-CELLS + n)) (lentFor n)
-    (lentFor n)
+judged e = judgeOutcome (e .kinds) (e .tasks) (e .operands) (e .workspace) (e .first) (e .second)
 
 unfoldable pub expected : Example → Outcome
-expected example =
-    let n = length (example .events) in
-    record {
-      answer = example .answer;
-      workspace = replicate (WORKSPACE-CELLS + n) 0 ++ (9 ∷ []);
-      first = example .order₁ ++ drop (length (example .order₁)) (lentFor n);
-      second = example .order₂ ++ drop (length (example .order₂)) (lentFor n);
-    }
+expected e = e .outcome
