@@ -1,0 +1,79 @@
+//! Builds what the programs link: the hand-written C judge (always, under the names `hand_*` and,
+//! with branches kept clear of 32-byte bounds, `aligned_*`) and the judge that is measured and
+//! tested. The latter is the archive that RACEJUDGE_LIB names; without that variable the
+//! hand-written judge takes its place once more, under the exported names `racejudge_*`.
+//!
+//! In every archive each function's section is set to start at a multiple of 64 bytes: then what
+//! else a program holds does not move the hot loops, and times repeat from build to build.
+
+use std::env;
+use std::path::{Path, PathBuf};
+use std::process::Command;
+
+const SOURCE: &str = "src/handwritten.c";
+
+fn main() {
+    let out = PathBuf::from(env::var("OUT_DIR").expect("OUT_DIR"));
+    println!("cargo:rerun-if-changed={SOURCE}");
+    println!("cargo:rerun-if-env-changed=RACEJUDGE_LIB");
+    println!("cargo:rerun-if-env-changed=CC");
+    println!("cargo:rustc-link-search=native={}", out.display());
+
+    compile(&out, "hand", &["-DNAME=hand"]);
+    compile(&out, "aligned", &["-DNAME=aligned", branches_within_32_bytes()]);
+    match env::var("RACEJUDGE_LIB") {
+        Ok(path) => {
+            println!("cargo:rerun-if-changed={path}");
+            let copy = out.join("libgiven.a");
+            std::fs::copy(&path, copy).expect("RACEJUDGE_LIB names an archive");
+            link(&out, "given");
+            let file = Path::new(&path).file_name().expect("RACEJUDGE_LIB names a file");
+            println!("cargo:rustc-env=RACEJUDGE_NAME={}", file.to_string_lossy());
+        }
+        Err(_) => {
+            compile(&out, "standin", &["-DNAME=racejudge"]);
+            println!("cargo:rustc-env=RACEJUDGE_NAME=stand-in, the hand-written C judge");
+        }
+    }
+}
+
+/// Compiles the C judge to OUT/libNAME.a and links it. Same back end (LLVM) and same target (plain
+/// x86-64) as the static library where clang is there; the system's C compiler otherwise.
+fn compile(out: &Path, name: &str, words: &[&str]) {
+    let object = out.join(format!("{name}.o"));
+    run(Command::new(compiler())
+        .args(["-O3", "-std=c11", "-Wall", "-Wextra", "-fPIC", "-ffunction-sections"])
+        .args(words)
+        .args(["-c", SOURCE, "-o"])
+        .arg(&object));
+    let library = out.join(format!("lib{name}.a"));
+    let _ = std::fs::remove_file(&library);
+    run(Command::new("ar").arg("crs").arg(&library).arg(&object));
+    link(out, name);
+}
+
+/// Links OUT/libNAME.a, its functions at multiples of 64 bytes.
+fn link(out: &Path, name: &str) {
+    let library = out.join(format!("lib{name}.a"));
+    run(Command::new("objcopy").args(["--set-section-alignment", ".text*=64"]).arg(&library));
+    println!("cargo:rustc-link-lib=static={name}");
+}
+
+fn compiler() -> String {
+    let present = |name: &&str| Command::new(name).arg("--version").output().is_ok();
+    let found = || ["clang", "cc"].into_iter().find(present).expect("a C compiler");
+    env::var("CC").unwrap_or_else(|_| found().to_string())
+}
+
+/// clang's word, and that of GNU's assembler.
+fn branches_within_32_bytes() -> &'static str {
+    if compiler().contains("clang") {
+        return "-mbranches-within-32B-boundaries";
+    }
+    "-Wa,-mbranches-within-32B-boundaries"
+}
+
+fn run(command: &mut Command) {
+    let status = command.status().expect("the command starts");
+    assert!(status.success(), "{command:?} failed");
+}

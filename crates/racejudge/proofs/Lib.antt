@@ -1,0 +1,2 @@
+-- The law behind the reading of standard input.
+pub mod Reading

@@ -1,0 +1,90 @@
+/* The fork-join race judge: a trace of one run of a fork-join program, judged for data races.
+ *
+ * Link libcapi.a, which `rt staticlib capi` writes. It needs only memset of the C library. Every call
+ * takes any contents and any lengths: nothing is required of the numbers in the slices. What the
+ * language of the caller must see to: each pointer leads to as many cells as its length says (also
+ * where the length is 0 it is not null), a pointer to uint16_t or uint64_t is aligned for it, and no
+ * buffer that is written overlaps another slice of the same call.
+ *
+ * A TRACE is three slices of one length. Entry p of each makes event p; positions count from 0.
+ *   kinds     RACEJUDGE_READ .. RACEJUDGE_HALT
+ *   tasks     the task that acts, 0 to 1,023
+ *   operands  read and write: the location, 0 to 1,023; fork and join: the task, 0 to 1,023; halt: 0
+ * At most RACEJUDGE_MAX_EVENTS events.
+ *
+ * THE WORKSPACE has at least RACEJUDGE_WORKSPACE + n cells for n events, with any contents. After the
+ * refusals 1 to 4 it is unchanged. After every other answer its first RACEJUDGE_WORKSPACE + n cells
+ * are 0 and the rest is unchanged.
+ *
+ * A REFUSAL has the number of the first condition that holds, and a position: that of the event for
+ * 5 to 12, else 0. The checks go 1 to 4; then for each event 5, 6, 7 and the one for its kind; 13 last.
+ *    1  the three slices differ in length
+ *    2  more than 32,768 events
+ *    3  the workspace is too short
+ *    4  an order buffer has fewer cells than the trace has events (the judge only)
+ *    5  the kind is above 4
+ *    6  task 0 has halted
+ *    7  the actor is not the running task
+ *    8  the location is above 1,023
+ *    9  the forked number is above 1,023
+ *   10  the forked number was used before
+ *   11  the joined task is not the left neighbour of the actor
+ *   12  the operand of the halt is not 0
+ *   13  p or q is not below the number of events (the ordering call only)
+ */
+#ifndef RACEJUDGE_H
+#define RACEJUDGE_H
+
+#include <stddef.h>
+#include <stdint.h>
+
+#ifdef __cplusplus
+extern "C" {
+#endif
+
+/* Kinds of event. */
+enum { RACEJUDGE_READ, RACEJUDGE_WRITE, RACEJUDGE_FORK, RACEJUDGE_JOIN, RACEJUDGE_HALT };
+
+#define RACEJUDGE_MAX_EVENTS 32768
+#define RACEJUDGE_WORKSPACE 12288
+
+/* What racejudge_judge returns. */
+enum { RACEJUDGE_CLEAN = 0, RACEJUDGE_RACE = 1 };
+
+/* What racejudge_ordering returns. */
+enum { RACEJUDGE_NO = 0, RACEJUDGE_YES = 1 };
+
+/* What both return for a refusal. */
+enum { RACEJUDGE_REFUSED = 2 };
+
+/* Judges the whole trace. Returns, and stores in values[0] and values[1]:
+ *   RACEJUDGE_CLEAN     0, 0           every two accesses that conflict are ordered
+ *   RACEJUDGE_RACE      s, t           t is the first access that races with an earlier one, s the
+ *                                      smallest position that it races with
+ *   RACEJUDGE_REFUSED   number, position
+ *
+ * The order buffers have at least as many cells as the trace has events. After a race the first t + 1
+ * cells of each hold an order of the events 0 to t that keeps every arc: first the events that reach s
+ * or t, in position order, then s, t (in `first`) or t, s (in `second`), then all others in position
+ * order. The cells from t + 1 on are unchanged. After clean or a refusal both buffers are unchanged. */
+uint64_t racejudge_judge(const uint8_t *kinds, size_t kinds_len, const uint16_t *tasks,
+                         size_t tasks_len, const uint16_t *operands, size_t operands_len,
+                         uint16_t *workspace, size_t workspace_len, uint16_t *first,
+                         size_t first_len, uint16_t *second, size_t second_len,
+                         uint64_t values[2]);
+
+/* Does event p reach event q: is p = q, or does a chain of arcs lead from p to q? The whole trace must
+ * keep the rules 5 to 12; races do not matter. Returns, and stores in values[0] and values[1]:
+ *   RACEJUDGE_NO        0, 0
+ *   RACEJUDGE_YES       0, 0
+ *   RACEJUDGE_REFUSED   number, position */
+uint64_t racejudge_ordering(const uint8_t *kinds, size_t kinds_len, const uint16_t *tasks,
+                            size_t tasks_len, const uint16_t *operands, size_t operands_len,
+                            uint16_t *workspace, size_t workspace_len, size_t p, size_t q,
+                            uint64_t values[2]);
+
+#ifdef __cplusplus
+}
+#endif
+
+#endif
