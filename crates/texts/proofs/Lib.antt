@@ -1,0 +1,2 @@
+-- The law behind the building of a text.
+pub mod Building

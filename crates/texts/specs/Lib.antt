@@ -1,0 +1,2 @@
+-- What the building of a text promises.
+pub mod Building
