@@ -1,0 +1,27 @@
+-- `runs::cells::clear` is safe and ends. The measure is the number of cells that are left. Assumes nothing.
+use Prim.Native.Nat.{_-_}
+use mathlib.Core.Path.{_≡_}
+use borrow.Author.Needs.{needs}
+use lib.ListN.{length}
+use Rattle.runs.proofs.cells.clear.Statement.{statement}
+use Rattle.runs.proofs.cells.clear.Tie as tie
+
+abbrev Inv-loop : tie.InvT-loop
+Inv-loop cells₀ n i₀ cells i = length cells ≡ length cells₀
+
+abbrev μ-loop : tie.MeasureT-loop
+μ-loop cells₀ n i₀ cells i = n - i
+
+pub clear-spec : {M : Type 1} → statement M
+clear-spec =
+    tie.close
+    (tie.spec
+    Inv-loop
+    μ-loop
+    (λ c. search needs)
+    (λ c κs. search needs)
+    (λ c. search needs)
+    (λ c. search needs)
+    (λ c. search needs)
+    (λ c. search needs)
+    (λ c. search needs))

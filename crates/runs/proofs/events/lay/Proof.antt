@@ -1,0 +1,38 @@
+-- `runs::events::lay` is safe and ends. The measure is the number of events that are left. Assumes nothing.
+use Prim.Native.Nat.{_-_}
+use mathlib.Core.Path.{_≡_}
+use borrow.Author.Needs.{needs}
+use lib.ListN.{length}
+use Rattle.runs.proofs.events.lay.Statement.{statement}
+use Rattle.runs.proofs.events.lay.Tie as tie
+
+abbrev Inv-loop : tie.InvT-loop
+Inv-loop events at n kinds₀ tasks₀ operands₀ i₀ from₀ kinds tasks operands i from = (length kinds ≡ length kinds₀) × (length tasks ≡ length tasks₀) × (length operands ≡ length operands₀)
+
+abbrev μ-loop : tie.MeasureT-loop
+μ-loop events at n kinds₀ tasks₀ operands₀ i₀ from₀ kinds tasks operands i from = n - i
+
+pub lay-spec : {M : Type 1} → statement M
+lay-spec =
+    tie.close
+    (tie.spec
+    Inv-loop
+    μ-loop
+    (λ c. search needs)
+    (λ c κs. search needs)
+    (λ c κs. search needs)
+    (λ c κs. search needs)
+    (λ c κs. search needs)
+    (λ c κs. search needs)
+    (λ c κs. search needs)
+    (λ c κs. search needs)
+    (λ c κs. search needs)
+    (λ c κs. search needs)
+    (λ c κs. search needs)
+    (λ c. search needs)
+    (λ c. search needs)
+    (λ c. search needs)
+    (λ c. search needs)
+    (λ c. search needs)
+    (λ c. search needs)
+    (λ c. search needs))

@@ -1,0 +1,28 @@
+-- `runs::slow::event` is safe and ends. The measure is the number of positions that are left. Assumes nothing.
+use Prim.Native.Nat.{_≤_}
+use borrow.Author.Needs.{needs}
+use Rattle.runs.proofs.slow.event.Statement.{statement}
+use Rattle.runs.proofs.slow.event.Tie as tie
+
+abbrev Inv-loop : tie.InvT-loop
+Inv-loop kinds cells kind x q p₀ p = p ≤ q
+
+abbrev μ-loop : tie.MeasureT-loop
+μ-loop kinds cells kind x q p₀ p = p
+
+pub event-spec : {M : Type 1} → statement M
+event-spec =
+    tie.close
+    (tie.spec
+    Inv-loop
+    μ-loop
+    (λ c. search needs)
+    (λ c. search needs)
+    (λ c κs. search needs)
+    (λ c κs. search needs)
+    (λ c. search needs)
+    (λ c. search needs)
+    (λ c. search needs)
+    (λ c. search needs)
+    (λ c. search needs)
+    (λ c. search needs))
