@@ -22,10 +22,10 @@ use Rattle.trace.proofs.TwoStacks.{head-is, line-of}
 use Rattle.trace.proofs.OrderLemma.{order-lemma-left, order-lemma-merged}
 use Rattle.forest.specs.Forest.{Forest}
 use Rattle.line.specs.declared.Line.{Line}
-use Rattle.line.specs.declared.Step.{Step}
-use Rattle.line.specs.declared.Step.the-variants.{Ok, Refused}
 use Rattle.line.specs.Cells.{isLeftIn}
 use Rattle.line.specs.Held.{SameBeyond, LineAt}
+use Rattle.judge.specs.declared.rules.Step.{Step}
+use Rattle.judge.specs.declared.rules.Step.the-variants.{Ok, Refused}
 use Rattle.judge.specs.declared.order.Asked.{Asked}
 use Rattle.judge.specs.declared.order.Asked.the-variants.{Held, Broken}
 use Rattle.judge.specs.Walks.{EventSays, Tells, AskSays}

@@ -48,7 +48,7 @@ no-race-next tr graph i before at p q h k r =
     either (last-or-below q i k) (λ e. at p (omega arith) (subst (λ (z : ℕ). Race tr graph p z) e r)) (λ j. before p q h j r)
 
 -- An access of the running task x that keeps the rules.
-module _ {tr : Trace} {n i : ℕ} {c : List ℕ} {line : Line} {x : ℕ} (at : RunningAt tr n i c line x) (inside : i < n)
+module _ {tr : Trace} {n i : ℕ} {c : List ℕ} {line : Line} {x top : ℕ} (at : RunningAt tr n i c line x top) (inside : i < n)
     (is : isAccess (tr .kind i) ≡ true) (own : tr .task i ≡ x) (low : tr .operand i < LOCATIONS) where
   abbrev j : JudgeAt tr n i c line
   j = at .judge
@@ -68,21 +68,30 @@ module _ {tr : Trace} {n i : ℕ} {c : List ℕ} {line : Line} {x : ℕ} (at : R
   in-it : i < graphOf tr n
   in-it = in-graph (access run is low) inside
 
-  law : Verdict (graph-forward haltOperand tr n) in-it run cells locations is low (accessIn c (tr .task i) (tr .kind i) (tr .operand i) .passed) (accessIn c (tr .task i) (tr .kind i) (tr .operand i) .cells)
-  law = access-law (graph-forward haltOperand tr n) in-it run cells locations is low
+  of-group : j .at .group (tr .task i) ≡ j .at .group top
+  of-group = ap (j .at .group) own ∙ at .of-group
 
-  pub accessible-at : Accessible c x (tr .operand i)
-  accessible-at = rw (← own) (accessible (graph-forward haltOperand tr n) in-it run cells locations is low)
+  abbrev accessed-here : Accessed
+  accessed-here = accessIn c top (tr .kind i) (tr .operand i)
+
+  abbrev Judged : Bool → List ℕ → Type 0
+  Judged = Verdict (graph-forward haltOperand tr n) in-it run cells locations is low top (at .small) of-group
+
+  law : Judged (accessed-here .passed) (accessed-here .cells)
+  law = access-law (graph-forward haltOperand tr n) in-it run cells locations is low top (at .small) of-group
+
+  pub accessible-at : Accessible c top (tr .operand i)
+  accessible-at = accessible (graph-forward haltOperand tr n) in-it run cells locations is low top (at .small) of-group
 
   -- What the access says of the judge.
   abbrev pub Says : Bool → List ℕ → Type 0
-  Says true d = SameBeyond c d × RunningAt tr n (suc i) d line x
+  Says true d = SameBeyond c d × RunningAt tr n (suc i) d line x top
   Says false d = Raced tr n i × (d ≡ c)
 
-  says : (b : Bool) (d : List ℕ) → Verdict (graph-forward haltOperand tr n) in-it run cells locations is low b d → Says b d
+  says : (b : Bool) (d : List ℕ) → Judged b d → Says b d
   says true d p = (p .beyond, taken)
     where
-      taken : RunningAt tr n (suc i) d line x
+      taken : RunningAt tr n (suc i) d line x top
       taken =
           record {
             judge =
@@ -102,12 +111,13 @@ module _ {tr : Trace} {n i : ℕ} {c : List ℕ} {line : Line} {x : ℕ} (at : R
                 };
             paused = at .paused;
             active = ap (λ (z : ℕ). z ∷ at .paused) own;
+            small = at .small;
+            of-group = at .of-group;
           }
   says false d w = w
 
-  pub says-access : Says (accessIn c x (tr .kind i) (tr .operand i) .passed) (accessIn c x (tr .kind i) (tr .operand i) .cells)
-  says-access = subst (λ (z : ℕ). Says (accessIn c z (tr .kind i) (tr .operand i) .passed) (accessIn c z (tr .kind i) (tr .operand i) .cells)) own
-      (says (accessIn c (tr .task i) (tr .kind i) (tr .operand i) .passed) (accessIn c (tr .task i) (tr .kind i) (tr .operand i) .cells) law)
+  pub says-access : Says (accessed-here .passed) (accessed-here .cells)
+  says-access = says (accessed-here .passed) (accessed-here .cells) law
 
 -- ---- the answers of `passes` and of `skip`, over the lent lists
 
@@ -115,19 +125,19 @@ module _ (kinds tasks operands : List ℕ) where
   abbrev tr : Trace
   tr = traceOf kinds tasks operands
 
-  pub stops-kind : (n i x : ℕ) (c : List ℕ) → 1 < getD kinds i 0 → Passing tr n i c c x false
+  pub stops-kind : (n i x top : ℕ) (c : List ℕ) → 1 < getD kinds i 0 → Passing tr n i c c x top false
   unfolding traceOf
-  stops-kind n i x c h = (refl, λ is own low. let k = access-below-two (getD kinds i 0) is in absurd (omega arith))
+  stops-kind n i x top c h = (refl, λ is own low. let k = access-below-two (getD kinds i 0) is in absurd (omega arith))
 
-  pub stops-task : (n i x : ℕ) (c : List ℕ) → (getD tasks i 0 ≡ x → ⊥) → Passing tr n i c c x false
+  pub stops-task : (n i x top : ℕ) (c : List ℕ) → (getD tasks i 0 ≡ x → ⊥) → Passing tr n i c c x top false
   unfolding traceOf
-  stops-task n i x c h = (refl, λ is own low. absurd (h own))
+  stops-task n i x top c h = (refl, λ is own low. absurd (h own))
 
-  pub stops-location : (n i x : ℕ) (c : List ℕ) → LOCATIONS ≤ getD operands i 0 → Passing tr n i c c x false
+  pub stops-location : (n i x top : ℕ) (c : List ℕ) → LOCATIONS ≤ getD operands i 0 → Passing tr n i c c x top false
   unfolding traceOf
-  stops-location n i x c h = (refl, λ is own low. absurd (omega arith))
+  stops-location n i x top c h = (refl, λ is own low. absurd (omega arith))
 
-  module _ (n i x : ℕ) (entry : List ℕ) (inside : i < n) (at : SomeRunning tr n i entry x) (kind : getD kinds i 0 ≤ 1) (own : getD tasks i 0 ≡ x)
+  module _ (n i x top : ℕ) (entry : List ℕ) (inside : i < n) (at : SomeRunning tr n i entry x top) (kind : getD kinds i 0 ≤ 1) (own : getD tasks i 0 ≡ x)
       (low : getD operands i 0 < LOCATIONS) where
     is-access : isAccess (tr .kind i) ≡ true
     unfolding traceOf
@@ -141,15 +151,15 @@ module _ (kinds tasks operands : List ℕ) where
     unfolding traceOf
     of-location = low
 
-    pub access-asks : Accessible entry x (getD operands i 0)
+    pub access-asks : Accessible entry top (getD operands i 0)
     unfolding traceOf
     access-asks = accessible-at (at .at) inside is-access of-task of-location
 
-    passing : (b : Bool) (exit : List ℕ) → ((line : Line) (r : RunningAt tr n i entry line x) → Says r inside is-access of-task of-location b exit) → Passing tr n i entry exit x b
+    passing : (b : Bool) (exit : List ℕ) → ((line : Line) (r : RunningAt tr n i entry line x top) → Says r inside is-access of-task of-location b exit) → Passing tr n i entry exit x top b
     passing true exit f = (rest-beyond n (f (at .line) (at .at) .0), λ line r. f line r .1)
     passing false exit f = (f (at .line) (at .at) .1, λ is o l. f (at .line) (at .at) .0)
 
-    pub access-answers : (r : Bool) (exit : List ℕ) → accessed r exit ≡ accessIn entry x (getD kinds i 0) (getD operands i 0) → Passing tr n i entry exit x r
+    pub access-answers : (r : Bool) (exit : List ℕ) → accessed r exit ≡ accessIn entry top (getD kinds i 0) (getD operands i 0) → Passing tr n i entry exit x top r
     unfolding traceOf
     access-answers r exit e =
         passing r exit
@@ -158,22 +168,22 @@ module _ (kinds tasks operands : List ℕ) where
 
   -- ---- the loop of `skip`, which began at `from` with the cells `entry`: what holds at i
 
-  pub record SkipLoop (x from : ℕ) (entry c : List ℕ) (i : ℕ) : Type 0 where
+  pub record SkipLoop (x top from : ℕ) (entry c : List ℕ) (i : ℕ) : Type 0 where
     pub later : from ≤ i
     pub within : i ≤ length kinds
     pub sized : Sized kinds tasks operands c (length kinds)
-    pub some : SomeRunning tr (length kinds) i c x
+    pub some : SomeRunning tr (length kinds) i c x top
     pub rest : Rest (length kinds) entry c
-    pub moves : (line : Line) → RunningAt tr (length kinds) from entry line x → RunningAt tr (length kinds) i c line x
+    pub moves : (line : Line) → RunningAt tr (length kinds) from entry line x top → RunningAt tr (length kinds) i c line x top
 
   pub skip-begin :
-      (x from : ℕ) (entry : List ℕ) → Sized kinds tasks operands entry (length kinds) → from ≤ length kinds → SomeRunning tr (length kinds) from entry x
-      → SkipLoop x from entry entry from
-  skip-begin x from entry sized h some =
+      (x top from : ℕ) (entry : List ℕ) → Sized kinds tasks operands entry (length kinds) → from ≤ length kinds → SomeRunning tr (length kinds) from entry x top
+      → SkipLoop x top from entry entry from
+  skip-begin x top from entry sized h some =
       record { later = omega arith; within = h; sized = sized; some = some; rest = rest-refl (length kinds) entry; moves = λ line r. r }
 
-  module _ {x from i : ℕ} {entry c : List ℕ} (l : SkipLoop x from entry c i) where
-    pub skip-turn : (d : List ℕ) (r : Bool) → r ≡ true → i < length kinds → Passing tr (length kinds) i c d x r → SkipLoop x from entry d (i + 1)
+  module _ {x top from i : ℕ} {entry c : List ℕ} (l : SkipLoop x top from entry c i) where
+    pub skip-turn : (d : List ℕ) (r : Bool) → r ≡ true → i < length kinds → Passing tr (length kinds) i c d x top r → SkipLoop x top from entry d (i + 1)
     skip-turn d true e h p =
         let some = l .some in
         rw add-one
@@ -187,7 +197,7 @@ module _ (kinds tasks operands : List ℕ) where
         })
     skip-turn d false e h p = absurd (true≢false (sym e))
 
-    pub skip-stop : (d : List ℕ) (r : Bool) → r ≡ false → Passing tr (length kinds) i c d x r → Skipped tr (length kinds) from entry d x i
+    pub skip-stop : (d : List ℕ) (r : Bool) → r ≡ false → Passing tr (length kinds) i c d x top r → Skipped tr (length kinds) from entry d x top i
     skip-stop d true e p = absurd (true≢false e)
     skip-stop d false e p =
         record {
@@ -198,5 +208,5 @@ module _ (kinds tasks operands : List ℕ) where
           stops = λ h. p .1;
         }
 
-    pub skip-end : length kinds ≤ i → Skipped tr (length kinds) from entry c x i
+    pub skip-end : length kinds ≤ i → Skipped tr (length kinds) from entry c x top i
     skip-end h = record { later = l .later; within = l .within; rest = l .rest; moves = l .moves; stops = λ k. absurd (omega arith) }

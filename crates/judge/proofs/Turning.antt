@@ -3,29 +3,29 @@ use Prim.Native.Nat.{ℕ, suc, _+_, _<_, _≤_}
 use mathlib.Core.Path.{_≡_, refl, sym, ap, subst, _∙_}
 use mathlib.Core.Bool.{Bool, true, false}
 use mathlib.Core.List.{List, [], _∷_}
-use mathlib.Core.Logic.{_≢_}
+use mathlib.Core.Logic.{inl, _≢_}
 use native.Mathlib.Omega.{arith}
 use native.Mathlib.Numerals.{add-one}
 use lib.ListN.{length, getD}
 use borrow.Author.Tests.{eqb-true, eqb-false, leb-false, not-false}
-use Rattle.trace.specs.Trace.{Trace, traceOf, isAccess, LOCATIONS}
+use Rattle.trace.specs.Trace.{Trace, traceOf, isAccess, TASKS, LOCATIONS}
 use Rattle.trace.specs.Line.{Checked, passes, fails, haltOperand, lineAfter}
 use Rattle.trace.specs.Race.{Race}
 use Rattle.trace.specs.Demands.{graphOf, IsRefused}
 use Rattle.trace.proofs.Lines.{line-more, passes-not-fails}
 use Rattle.trace.proofs.Sizes.{Sized}
-use Rattle.trace.proofs.Run.{lineOf}
+use Rattle.trace.proofs.Run.{Run, lineOf, in-line-small}
 use Rattle.trace.proofs.TwoStacks.{line-of}
+use Rattle.forest.specs.Forest.{topOf}
 use Rattle.line.specs.declared.Line.{Line}
 use Rattle.line.specs.declared.Rule.the-variants.{Access}
 use Rattle.line.specs.Rules.{ruleOf}
 use Rattle.line.specs.Cells.{runningIn}
-use Rattle.line.specs.declared.Step.{Step}
-use Rattle.line.specs.declared.Step.the-variants.{Ok, Refused}
-use Rattle.line.specs.Steps.{Stepped, stepped, goes, rowIn, locationIn, actIn, eventIn}
+use Rattle.line.specs.Steps.{Stepped, goes, rowed, locationIn, actIn, eventIn}
 use Rattle.line.specs.Held.{LineCells, LineAt, Sound}
 use Rattle.line.proofs.Moves.{running-is}
-use Rattle.line.proofs.EventLaw.{Agrees, event-law}
+use Rattle.line.proofs.EventLaw.{row-none, row-some, row-kept, Agrees, event-law}
+use Rattle.line.proofs.AccessLaw.{top-group}
 use Rattle.judge.specs.State.{Rest, JudgeAt, RunningAt, SomeRunning, Raced, Stops, Skipped, StopsHere, StoppedAt, SkippedTo, RaceAt}
 use Rattle.judge.specs.declared.events.Taken.{Taken}
 use Rattle.judge.specs.declared.events.Taken.the-variants.{Next, Broken, Racing}
@@ -33,16 +33,10 @@ use Rattle.judge.specs.declared.events.Found.{Found}
 use Rattle.judge.specs.declared.events.Found.the-variants.{Clean}
 use Rattle.judge.specs.Turns.{TurnSays, FoundSays}
 use Rattle.judge.proofs.Rests.{rest-eq, rest-refl, rest-trans, rest-beyond, sized-rest}
+use Rattle.judge.proofs.Walking.{running-first}
 use Rattle.judge.proofs.Skipping.{below-two-access, access-below-two, no-race-next}
 
 -- ---- an access that keeps the rules
-
-row-goes :
-    (c : List ℕ) (number : ℕ) (condition : Bool) (s : Stepped) (line : Line) → rowIn c number condition s .result ≡ passes line
-    → (condition ≡ false) × (s .result ≡ passes line) × (rowIn c number condition s .cells ≡ s .cells)
-unfolding rowIn
-row-goes c number true s line e = absurd (passes-not-fails e refl)
-row-goes c number false s line e = (refl, e, refl)
 
 -- It is of the running task and of a location, and leaves the cells.
 pub record Kept (c : List ℕ) (line : Line) (x a : ℕ) (exit : List ℕ) : Type 0 where
@@ -56,11 +50,11 @@ pub access-kept :
     → Kept c line x a (eventIn c line kind x a .cells)
 unfolding eventIn ruleOf actIn locationIn
 access-kept c line next kind x a is e =
-    let five = row-goes c 5 _ _ next e in
-    let six = row-goes c 6 _ _ next (five .1) in
-    let seven = row-goes c 7 _ _ next (six .1) in
+    let five = row-kept c 5 _ _ next e in
+    let six = row-kept c 6 _ _ next (five .1) in
+    let seven = row-kept c 7 _ _ next (six .1) in
     let rule : actIn c line (ruleOf kind) a ≡ actIn c line Access a = rw is in
-    let eight = row-goes c 8 _ (goes line c) next (sym (ap (λ (s : Stepped). s .result) rule) ∙ seven .1) in
+    let eight = row-kept c 8 _ (goes line c) next (sym (ap (λ (s : Stepped). s .result) rule) ∙ seven .1) in
     record {
       active = eqb-false (line .active) 0 (six .0);
       running = eqb-true x (runningIn c line) (not-false _ (seven .0));
@@ -161,27 +155,40 @@ module _ {tr : Trace} {n from : ℕ} {c : List ℕ} {line : Line} (j : JudgeAt t
         stops = λ k. stops-none (j .at .active) (sym (j .at .cells .active-depth) ∙ e);
       }
 
-  running-at : (x : ℕ) → line .active ≢ 0 → x ≡ runningIn c line → (active : List ℕ) → j .at .active ≡ active → RunningAt tr n from c line x
-  running-at x nonempty e [] q = absurd (nonempty (j .at .cells .active-depth ∙ ap length q))
-  running-at x nonempty e (y ∷ paused) q =
-      let top : runningIn c line ≡ y =
-      running-is (subst (λ (a : List ℕ). LineCells c line (j .at .left) a (j .at .used) (j .at .group)) q (j .at .cells)) in
-      record { judge = j; paused = paused; active = q ∙ ap (λ (z : ℕ). z ∷ paused) (sym (e ∙ top)) }
+  module _ (x : ℕ) (nonempty : line .active ≢ 0) (e : x ≡ runningIn c line) where
+    active-tasks : (paused : List ℕ) × (j .at .active ≡ x ∷ paused)
+    active-tasks = running-first (j .at .active) (j .at .cells) nonempty e
 
-  pub advance-runs : (x : ℕ) → line .active ≢ 0 → x ≡ runningIn c line → SomeRunning tr n from c x
-  advance-runs x nonempty e = record { line = line; at = running-at x nonempty e (j .at .active) refl }
+    pub advance-below : x < TASKS
+    advance-below =
+        in-line-small haltOperand tr
+        (subst (λ (a : List ℕ). Run haltOperand tr from (j .at .left) a (j .at .used) (j .at .group) (j .at .last)) (active-tasks .1) (j .at .run)) x
+        (inl (inl refl))
 
-  pub advance-skips :
-      (x r : ℕ) (exit : List ℕ) → line .active ≢ 0 → x ≡ runningIn c line → Skipped tr n from c exit x r → SkippedTo tr n from c exit line r
-  advance-skips x r exit nonempty e s =
-      let at = s .moves line (running-at x nonempty e (j .at .active) refl) in
-      record {
-        later = s .later;
-        within = s .within;
-        rest = s .rest;
-        judge = at .judge;
-        stops = λ h. subst (λ (a : List ℕ). StopsHere tr n r a) (sym (at .active)) (s .stops h);
-      }
+    module _ (top : ℕ) (found : (top ≡ topOf c x) × (top < TASKS)) where
+      running-at : RunningAt tr n from c line x top
+      running-at =
+          record {
+            judge = j;
+            paused = active-tasks .0;
+            active = active-tasks .1;
+            small = found .1;
+            of-group = top-group (j .at .cells) x advance-below ∙ ap (j .at .group) (sym (found .0));
+          }
+
+      pub advance-runs : SomeRunning tr n from c x top
+      advance-runs = record { line = line; at = running-at }
+
+      pub advance-skips : (r : ℕ) (exit : List ℕ) → Skipped tr n from c exit x top r → SkippedTo tr n from c exit line r
+      advance-skips r exit s =
+          let at = s .moves line running-at in
+          record {
+            later = s .later;
+            within = s .within;
+            rest = s .rest;
+            judge = at .judge;
+            stops = λ h. subst (λ (a : List ℕ). StopsHere tr n r a) (sym (at .active)) (s .stops h);
+          }
 
 module _ (kinds tasks operands : List ℕ) where
   abbrev of-lists : Trace
@@ -194,26 +201,27 @@ module _ (kinds tasks operands : List ℕ) where
     abbrev step : Stepped
     step = eventIn entry line (getD kinds i 0) (getD tasks i 0) (getD operands i 0)
 
-    pub says-broken : (r : Step) (number : ℕ) → r ≡ Refused number → stepped r exit ≡ step → TurnSays of-lists n i entry exit (Broken number)
-    unfolding traceOf stepped
-    says-broken r number told ensures =
-        let e : stepped (Refused number) exit ≡ step = ap (λ (s : Step). stepped s exit) (sym told) ∙ ensures in
-        rw (ap (λ (s : Stepped). s .cells) e) (turn-broken stopped inside number (sym (ap (λ (s : Stepped). s .result) e)))
+    module _ (next : Line) (row : ℕ) (ensures : rowed next row exit ≡ step) where
+      pub says-broken : row ≢ 0 → TurnSays of-lists n i entry exit (Broken row)
+      unfolding traceOf
+      says-broken some =
+          let e = sym (row-some next row exit ensures some) in
+          rw (ap (λ (s : Stepped). s .cells) e) (turn-broken stopped inside row (sym (ap (λ (s : Stepped). s .result) e)))
 
-    pub says-racing : (r : Step) (next : Line) → r ≡ Ok next → stepped r exit ≡ step → getD kinds i 0 < 2 → TurnSays of-lists n i entry exit Racing
-    unfolding traceOf stepped
-    says-racing r next told ensures k =
-        let e : stepped (Ok next) exit ≡ step = ap (λ (s : Step). stepped s exit) (sym told) ∙ ensures in
-        rw (ap (λ (s : Stepped). s .cells) e)
-        (turn-racing stopped inside next (sym (ap (λ (s : Stepped). s .result) e)) (below-two-access (getD kinds i 0) k))
+      pub says-racing : row ≡ 0 → getD kinds i 0 < 2 → TurnSays of-lists n i entry exit Racing
+      unfolding traceOf
+      says-racing none k =
+          let e = sym (row-none next row exit ensures none) in
+          rw (ap (λ (s : Stepped). s .cells) e)
+          (turn-racing stopped inside next (sym (ap (λ (s : Stepped). s .result) e)) (below-two-access (getD kinds i 0) k))
 
-    pub says-next : (r : Step) (next : Line) → r ≡ Ok next → stepped r exit ≡ step → 2 ≤ getD kinds i 0 → TurnSays of-lists n i entry exit (Next next)
-    unfolding traceOf stepped
-    says-next r next told ensures k =
-        let e : stepped (Ok next) exit ≡ step = ap (λ (s : Step). stepped s exit) (sym told) ∙ ensures in
-        rw (ap (λ (s : Stepped). s .cells) e)
-        (turn-next stopped inside next (sym (ap (λ (s : Stepped). s .result) e))
-        (λ is. let h = access-below-two (getD kinds i 0) is in omega arith))
+      pub says-next : row ≡ 0 → 2 ≤ getD kinds i 0 → (r : Line) → r ≡ next → TurnSays of-lists n i entry exit (Next r)
+      unfolding traceOf
+      says-next none k r same =
+          let e = sym (row-none next row exit ensures none) in
+          rw (same, ap (λ (s : Stepped). s .cells) e)
+          (turn-next stopped inside next (sym (ap (λ (s : Stepped). s .result) e))
+          (λ is. let h = access-below-two (getD kinds i 0) is in omega arith))
 
   -- What holds at i in the loop of `run`, which began with the cells `entry`.
   pub record RunLoop (entry c : List ℕ) (line : Line) (i : ℕ) : Type 0 where

@@ -3,13 +3,13 @@ use Prim.Native.Nat.{ℕ, zero, suc, _+_, _<_, _≤_}
 use mathlib.Core.Path.{_≡_, refl, sym, ap, subst, _∙_}
 use mathlib.Core.Bool.{true}
 use mathlib.Core.List.{List, [], _∷_}
-use mathlib.Core.Logic.{inl, inr}
+use mathlib.Core.Logic.{inl, inr, _≢_}
 use native.Mathlib.Omega.{arith}
 use native.Mathlib.Numerals.{add-one}
 use lib.ListN.{length, getD, set, length-set}
 use lib.Seq.{getD-set-other}
 use Rattle.trace.specs.Trace.{Trace, traceOf, READ, WRITE, isAccess, LOCATIONS, WORKSPACE-CELLS}
-use Rattle.trace.specs.Line.{haltOperand, lineAfter}
+use Rattle.trace.specs.Line.{fails, haltOperand, lineAfter}
 use Rattle.trace.specs.Demands.{BreaksFirst}
 use Rattle.trace.proofs.Tests.{either, last-or-below, test-or, test-eq}
 use Rattle.trace.proofs.Stacks.{updated}
@@ -20,13 +20,13 @@ use Rattle.trace.proofs.Sizes.{Sized}
 use Rattle.forest.specs.Cells.{zeroed}
 use Rattle.forest.proofs.Cells.{zeroed-length, zeroed-beyond}
 use Rattle.line.specs.declared.Line.{Line}
-use Rattle.line.specs.declared.Step.{Step}
-use Rattle.line.specs.declared.Step.the-variants.{Ok, Refused}
 use Rattle.line.specs.Cells.{USED, ACTIVE, CLEARED, depths, runningIn, startedIn}
-use Rattle.line.specs.Steps.{Stepped, stepped, eventIn}
+use Rattle.line.specs.Steps.{Stepped, goes, rowed, eventIn}
 use Rattle.line.specs.Held.{SameBeyond, LineCells, LineAt}
 use Rattle.line.proofs.Moves.{running-is}
-use Rattle.line.proofs.EventLaw.{line-start, Agrees, event-law}
+use Rattle.line.proofs.EventLaw.{row-none, row-some, line-start, Agrees, event-law}
+use Rattle.judge.specs.declared.rules.Step.{Step}
+use Rattle.judge.specs.declared.rules.Step.the-variants.{Ok, Refused}
 use Rattle.judge.specs.declared.rules.Walked.{Walked}
 use Rattle.judge.specs.declared.rules.Walked.the-variants.{Held, Broken}
 use Rattle.judge.specs.Walks.{Plain, LineKept, EventSays, WalkSays}
@@ -112,7 +112,7 @@ plain-less p h =
 -- ---- the line over them
 
 -- The running task is the first of the active ones.
-running-first :
+pub running-first :
     {c : List ℕ} {line : Line} {left used : List ℕ} {group : ℕ → ℕ} {x : ℕ} (active : List ℕ) → LineCells c line left active used group
     → (line .active ≡ 0 → ⊥) → x ≡ runningIn c line → (paused : List ℕ) × (active ≡ x ∷ paused)
 running-first [] l some e = absurd (some (l .active-depth))
@@ -162,24 +162,33 @@ module _ {tr : Trace} {n : ℕ} {c : List ℕ} {line : Line} (at : LineAt tr n c
       → Agrees tr n c (at .left) (at .active) (at .group) (lineAfter haltOperand tr (suc n)) (s .result) (s .cells)
   step-agrees s e = rw e (event-law at)
 
-  event-says-of :
-      (s : Step) (exit : List ℕ) → stepped s exit ≡ eventIn c line (tr .kind n) (tr .task n) (tr .operand n) → EventSays tr n c exit s
-  unfolding stepped
-  event-says-of (Ok next) exit e = let next-line = step-agrees (stepped (Ok next) exit) e in (next-line .beyond, next-line .at)
-  event-says-of (Refused number) exit e =
-      let met = step-agrees (stepped (Refused number) exit) e in
+  pub event-broken :
+      (next : Line) (row : ℕ) (exit : List ℕ) → rowed next row exit ≡ eventIn c line (tr .kind n) (tr .task n) (tr .operand n) → row ≢ 0
+      → EventSays tr n c exit (Refused row)
+  event-broken next row exit e some =
+      let met = step-agrees (record { result = fails row; cells = exit }) (sym (row-some next row exit e some)) in
       let before = lineOf (at .left) (at .active) (at .used) in
       let kept = line-of haltOperand tr (at .run) in (
         record { long = ap length (met .1); same = λ i h. rw (met .1) },
         record { line = before; kept-before = kept; broken = sym (line-more haltOperand tr n before kept) ∙ met .0 },
       )
 
--- EVENT n, HELD TO THE RULES: what the step says.
-pub event-says :
-    (kinds tasks operands : List ℕ) {n : ℕ} {c : List ℕ} {line : Line} → LineAt (traceOf kinds tasks operands) n c line → (s : Step) (exit : List ℕ)
-    → stepped s exit ≡ eventIn c line (getD kinds n 0) (getD tasks n 0) (getD operands n 0) → EventSays (traceOf kinds tasks operands) n c exit s
-unfolding traceOf
-event-says kinds tasks operands at s exit e = event-says-of at s exit e
+  pub event-kept :
+      (next : Line) (row : ℕ) (exit : List ℕ) → rowed next row exit ≡ eventIn c line (tr .kind n) (tr .task n) (tr .operand n) → row ≡ 0
+      → EventSays tr n c exit (Ok next)
+  event-kept next row exit e none =
+      let next-line = step-agrees (goes next exit) (sym (row-none next row exit e none)) in (next-line .beyond, next-line .at)
+
+-- EVENT n, HELD TO THE RULES: what the step says, by the row that is met or 0.
+module _ (kinds tasks operands : List ℕ) {n : ℕ} {c : List ℕ} {line : Line} (at : LineAt (traceOf kinds tasks operands) n c line)
+    (next : Line) (row : ℕ) (exit : List ℕ) (e : rowed next row exit ≡ eventIn c line (getD kinds n 0) (getD tasks n 0) (getD operands n 0)) where
+  pub says-refused : row ≢ 0 → EventSays (traceOf kinds tasks operands) n c exit (Refused row)
+  unfolding traceOf
+  says-refused some = event-broken at next row exit e some
+
+  pub says-ok : row ≡ 0 → (r : Line) → r ≡ next → EventSays (traceOf kinds tasks operands) n c exit (Ok r)
+  unfolding traceOf
+  says-ok none r f = rw f (event-kept at next row exit e none)
 
 -- ---- the loop
 

@@ -5,7 +5,7 @@ use mathlib.Core.Path.{_≡_}
 use mathlib.Core.Bool.{Bool, true, false}
 use mathlib.Core.List.{List, [], _∷_}
 use lib.ListN.{length, getD}
-use Rattle.trace.specs.Trace.{Trace, isAccess, LOCATIONS, WORKSPACE-CELLS}
+use Rattle.trace.specs.Trace.{Trace, isAccess, TASKS, LOCATIONS, WORKSPACE-CELLS}
 use Rattle.trace.specs.Race.{Race}
 use Rattle.trace.specs.Demands.{KeepsRules, NoRaceBefore, graphOf}
 use Rattle.line.specs.declared.Line.{Line}
@@ -22,16 +22,18 @@ pub record JudgeAt (tr : Trace) (n i : ℕ) (c : List ℕ) (line : Line) : Type 
   pub locations : LocationsAt tr i c (at .left) (at .active) (at .group)
   pub no-race : NoRaceBefore tr (graphOf tr n) i
 
--- And task x is running.
-pub record RunningAt (tr : Trace) (n i : ℕ) (c : List ℕ) (line : Line) (x : ℕ) : Type 0 where
+-- And task x is running, of whose group `top` is a task.
+pub record RunningAt (tr : Trace) (n i : ℕ) (c : List ℕ) (line : Line) (x top : ℕ) : Type 0 where
   pub judge : JudgeAt tr n i c line
   pub paused : List ℕ
   pub active : judge .at .active ≡ x ∷ paused
+  pub small : top < TASKS
+  pub of-group : judge .at .group x ≡ judge .at .group top
 
 -- The same of some line: what a function asks that is not given the line.
-pub record SomeRunning (tr : Trace) (n i : ℕ) (c : List ℕ) (x : ℕ) : Type 0 where
+pub record SomeRunning (tr : Trace) (n i : ℕ) (c : List ℕ) (x top : ℕ) : Type 0 where
   pub line : Line
-  pub at : RunningAt tr n i c line x
+  pub at : RunningAt tr n i c line x top
 
 -- An earlier access races with event i.
 abbrev pub Raced : Trace → ℕ → ℕ → Type 0
@@ -42,16 +44,16 @@ abbrev pub Stops : Trace → ℕ → ℕ → ℕ → Type 0
 Stops tr n i x = isAccess (tr .kind i) ≡ true → tr .task i ≡ x → tr .operand i < LOCATIONS → Raced tr n i
 
 -- What the test of event i says: it passed and is taken, or it stops and no cell has changed.
-abbrev pub Passing : Trace → ℕ → ℕ → List ℕ → List ℕ → ℕ → Bool → Type 0
-Passing tr n i entry exit x true = Rest n entry exit × ((line : Line) → RunningAt tr n i entry line x → RunningAt tr n (suc i) exit line x)
-Passing tr n i entry exit x false = (exit ≡ entry) × Stops tr n i x
+abbrev pub Passing : Trace → ℕ → ℕ → List ℕ → List ℕ → ℕ → ℕ → Bool → Type 0
+Passing tr n i entry exit x top true = Rest n entry exit × ((line : Line) → RunningAt tr n i entry line x top → RunningAt tr n (suc i) exit line x top)
+Passing tr n i entry exit x top false = (exit ≡ entry) × Stops tr n i x
 
 -- The accesses of x from `from` up to r passed, and event r stops.
-pub record Skipped (tr : Trace) (n from : ℕ) (entry exit : List ℕ) (x r : ℕ) : Type 0 where
+pub record Skipped (tr : Trace) (n from : ℕ) (entry exit : List ℕ) (x top r : ℕ) : Type 0 where
   pub later : from ≤ r
   pub within : r ≤ n
   pub rest : Rest n entry exit
-  pub moves : (line : Line) → RunningAt tr n from entry line x → RunningAt tr n r exit line x
+  pub moves : (line : Line) → RunningAt tr n from entry line x top → RunningAt tr n r exit line x top
   pub stops : r < n → Stops tr n r x
 
 -- Event t is the first that fails, and it fails the race test: the cells hold the line before it.

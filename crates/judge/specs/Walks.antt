@@ -14,11 +14,11 @@ use Rattle.trace.specs.declared.Ordering.{Ordering}
 use Rattle.trace.proofs.Tests.{Tests}
 use Rattle.trace.proofs.Paths.{Forward}
 use Rattle.line.specs.declared.Line.{Line}
-use Rattle.line.specs.declared.Step.{Step}
-use Rattle.line.specs.declared.Step.the-variants.{Ok, Refused}
 use Rattle.line.specs.Held.{SameBeyond, LineAt}
 use Rattle.judge.specs.declared.rules.Walked.{Walked}
 use Rattle.judge.specs.declared.rules.Walked.the-variants.{Held, Broken}
+use Rattle.judge.specs.declared.rules.Step.{Step}
+use Rattle.judge.specs.declared.rules.Step.the-variants.{Ok, Refused}
 use Rattle.judge.specs.declared.order.Asked.{Asked}
 use Rattle.judge.specs.declared.order.Asked.the-variants.{Held as Told, Broken as Stopped}
 use Rattle.judge.specs.State.{Rest}

@@ -7,7 +7,6 @@ ghost use Rattle.trace.proofs.Sizes.{Sized};
 ghost use Rattle.judge.specs.State.{JudgeAt, StoppedAt, SkippedTo};
 ghost use Rattle.judge.specs.Turns.{TurnSays, FoundSays};
 use line::Line;
-use line::Step;
 
 // What an event leads to that is no access that passes.
 pub enum Taken {
@@ -41,7 +40,8 @@ fn advance(
         return from;
     }
     let x = line::running(ws, line);
-    crate::accesses::skip(kinds, tasks, operands, ws, x, from)
+    let top = line::top_of(ws, x);
+    crate::accesses::skip(kinds, tasks, operands, ws, x, top, from)
 }
 
 // One event that is no access that passes. An access that keeps the rules here is one that races.
@@ -59,16 +59,14 @@ fn turn(
     ensures { λ r. ⌜ TurnSays (traceOf (now (kinds .entry)) (now (tasks .entry)) (now (operands .entry))) (length (now (kinds .entry))) i (now (ws .entry)) (now (ws .exit)) r ⌝ }
 {
     let kind = kinds[i];
-    let step = line::event(ws, line, kind, tasks[i], operands[i]);
-    match step {
-        Step::Ok(next) => {
-            if kind < 2 {
-                return Taken::Racing;
-            }
-            Taken::Next(next)
-        }
-        Step::Refused(number) => Taken::Broken(number),
+    let row = line::event(ws, line, kind, tasks[i], operands[i]);
+    if row != 0 {
+        return Taken::Broken(row);
     }
+    if kind < 2 {
+        return Taken::Racing;
+    }
+    Taken::Next(line::after(line, kind))
 }
 
 // All events, from the starting line on.

@@ -9,9 +9,9 @@ ghost use Rattle.trace.proofs.Sizes.{Sized};
 ghost use Rattle.line.specs.Held.{LineAt};
 ghost use Rattle.judge.specs.Walks.{AskSays, Answered, ReachAnswered, OrderSays};
 use crate::rules;
+use crate::rules::Step;
 use crate::rules::Walked;
 use line::Line;
-use line::Step;
 use trace::Ordering;
 use trace::Refusal;
 

@@ -7,7 +7,12 @@ ghost use Rattle.trace.proofs.Sizes.{Sized};
 ghost use Rattle.line.specs.Held.{LineAt};
 ghost use Rattle.judge.specs.Walks.{Plain, LineKept, EventSays, WalkSays};
 use line::Line;
-use line::Step;
+
+// What an event leads to: the next line, or the row that it meets.
+pub enum Step {
+    Ok(Line),
+    Refused(usize),
+}
 
 // The line after the events, or the row and the position of the first that breaks a rule.
 pub enum Walked {
@@ -72,7 +77,12 @@ pub fn advance(
     requires { ⌜ LineAt (traceOf (now kinds) (now tasks) (now operands)) i (now ws) line ⌝ }
     ensures { λ r. ⌜ EventSays (traceOf (now (kinds .entry)) (now (tasks .entry)) (now (operands .entry))) i (now (ws .entry)) (now (ws .exit)) r ⌝ }
 {
-    line::event(ws, line, kinds[i], tasks[i], operands[i])
+    let kind = kinds[i];
+    let row = line::event(ws, line, kind, tasks[i], operands[i]);
+    if row != 0 {
+        return Step::Refused(row);
+    }
+    Step::Ok(line::after(line, kind))
 }
 
 // The events from `from` up to `to`, held to the rules.

@@ -8,7 +8,7 @@ use mathlib.Core.Logic.{inl, inr, _≢_, _↔_}
 use native.Mathlib.Omega.{arith}
 use lib.Dec.{eqb}
 use lib.ListN.{length, getD, set, length-set}
-use lib.Seq.{getD-set-same, getD-set-other}
+use lib.Seq.{getD-set-same, getD-set-other, set-set}
 use borrow.Author.Tests.{eq-eqb, ne-eqb}
 use Rattle.trace.specs.Trace.{Trace, READ, WRITE, isAccess, LOCATIONS, TASKS}
 use Rattle.trace.specs.Line.{haltOperand}
@@ -17,14 +17,14 @@ use Rattle.trace.proofs.Tests.{by-test, either, same-or-not, tests-fails, test-
 use Rattle.trace.proofs.Conflicts.{test-access, test-conflicting}
 use Rattle.trace.proofs.Stacks.{In, in-eq, updated}
 use Rattle.trace.proofs.Paths.{Forward}
-use Rattle.trace.proofs.Run.{Run, access, distinct-stacks, groups, stacks-length, in-line-small, zero-active}
+use Rattle.trace.proofs.Run.{Run, access, distinct-stacks, groups, stacks-length, zero-active}
 use Rattle.trace.proofs.Leftmost.{Remembers, tails-whole, remembers-group, remembers-other, remembers-stays, remembers-moves}
 use Rattle.trace.proofs.AccessLemma.{Against, access-lemma}
 use Rattle.forest.specs.Forest.{topOf}
 use Rattle.forest.proofs.Tops.{top-is-top, top-of-top}
 use Rattle.line.specs.declared.Line.{Line}
 use Rattle.line.specs.Cells.{AGAINST-READ, AGAINST-WRITE, isLeftIn}
-use Rattle.line.specs.Accesses.{Accessible, againstRead, againstWrite, settledIn, toppedIn, behindIn, accessIn}
+use Rattle.line.specs.Accesses.{Accessible, againstRead, againstWrite, secondTable, settledIn, toppedIn, behindIn, accessIn}
 use Rattle.line.specs.Held.{SameBeyond, LineCells, TableAt, LocationsAt}
 use Rattle.line.proofs.Moves.{line-frame}
 
@@ -63,7 +63,8 @@ pub record Passes (tr : Trace) (n graph : ℕ) (line : Line) (left active used e
 
 module _ {tr : Trace} {n graph : ℕ} (forward : Forward tr graph) (inside : n < graph) {c : List ℕ} {line : Line} {left paused used : List ℕ} {group last : ℕ → ℕ}
     (run : Run haltOperand tr n left (tr .task n ∷ paused) used group last) (l : LineCells c line left (tr .task n ∷ paused) used group)
-    (locs : LocationsAt tr n c left (tr .task n ∷ paused) group) (is : isAccess (tr .kind n) ≡ true) (low : tr .operand n < LOCATIONS) where
+    (locs : LocationsAt tr n c left (tr .task n ∷ paused) group) (is : isAccess (tr .kind n) ≡ true) (low : tr .operand n < LOCATIONS)
+    (own : ℕ) (own-small : own < TASKS) (own-group : group (tr .task n) ≡ group own) where
   abbrev x : ℕ
   x = tr .task n
 
@@ -76,9 +77,6 @@ module _ {tr : Trace} {n graph : ℕ} (forward : Forward tr graph) (inside : n <
   abbrev writer : ℕ
   writer = againstWrite c o
 
-  x-small : x < TASKS
-  x-small = in-line-small haltOperand tr run x (inl (inl refl))
-
   reader-small : reader < TASKS
   reader-small = locs .against-read .small o low
 
@@ -86,8 +84,8 @@ module _ {tr : Trace} {n graph : ℕ} (forward : Forward tr graph) (inside : n <
   writer-small = locs .against-write .small o low
 
   -- what `access` asks
-  pub accessible : Accessible c x o
-  accessible = record { room = l .room; forest = l .forest; task = x-small; location = low; read-task = reader-small; write-task = writer-small }
+  pub accessible : Accessible c own o
+  accessible = record { room = l .room; forest = l .forest; task = own-small; location = low; read-task = reader-small; write-task = writer-small }
 
   read-held : Remembers tr (Against tr READ o) n left (x ∷ paused) group reader
   read-held = locs .against-read .remembers o low
@@ -106,8 +104,9 @@ module _ {tr : Trace} {n graph : ℕ} (forward : Forward tr graph) (inside : n <
       record { access = a .access; location = a .location; conflicts = test-conflicting (tr .kind p) WRITE .1 (inr refl) } in
       tails-whole (group (tr .task p)) (group writer) left (write-held .leftmost p (w .1) wide .of-left) (in-eq left (w .3) i))
 
-  x-active : In (group x) left → ⊥
-  x-active i = distinct-stacks haltOperand tr run .disjoint x (in-eq left (sym (groups haltOperand tr run .own x (inl (inl refl)))) i) (inl refl)
+  own-active : In (group own) left → ⊥
+  own-active i =
+      distinct-stacks haltOperand tr run .disjoint x (in-eq left (sym (groups haltOperand tr run .own x (inl (inl refl)))) (in-eq left own-group i)) (inl refl)
 
   -- the kind of the event decides which table it is held against
   abbrev Racing : Type 0
@@ -141,17 +140,21 @@ module _ {tr : Trace} {n graph : ℕ} (forward : Forward tr graph) (inside : n <
   abbrev Held : ℕ → ℕ → Type 0
   Held k y = Remembers tr (Against tr k o) (suc n) left (x ∷ paused) group y
 
-  -- a write is held against x from now on, where no group was left of it
-  write-moves : (In (group writer) left → ⊥) → Held WRITE x
-  write-moves out = remembers-moves haltOperand tr (Against tr WRITE o) run writer write-held for-write out
+  -- a task of the group that x is of does as well
+  held-own : (k : ℕ) → Held k x → Held k own
+  held-own k = remembers-group haltOperand tr (Against tr k o) (suc n) left (x ∷ paused) group x own own-group
+
+  -- a write is held against x's group from now on, where no group was left of it
+  write-moves : (In (group writer) left → ⊥) → Held WRITE own
+  write-moves out = held-own WRITE (remembers-moves haltOperand tr (Against tr WRITE o) run writer write-held for-write out)
 
   write-stays : In (group writer) left → (y : ℕ) → group writer ≡ group y → Held WRITE y
   write-stays i y e =
       remembers-group haltOperand tr (Against tr WRITE o) (suc n) left (x ∷ paused) group writer y e
       (remembers-stays haltOperand tr (Against tr WRITE o) run writer write-held i)
 
-  read-moves : tr .kind n ≡ WRITE → (In (group reader) left → ⊥) → Held READ x
-  read-moves k out = remembers-moves haltOperand tr (Against tr READ o) run reader read-held (for-read k) out
+  read-moves : tr .kind n ≡ WRITE → (In (group reader) left → ⊥) → Held READ own
+  read-moves k out = held-own READ (remembers-moves haltOperand tr (Against tr READ o) run reader read-held (for-read k) out)
 
   read-keeps : tr .kind n ≡ READ → (y : ℕ) → group reader ≡ group y → Held READ y
   read-keeps k y e =
@@ -200,11 +203,11 @@ module _ {tr : Trace} {n graph : ℕ} (forward : Forward tr graph) (inside : n <
   by-kind : {C : Type 0} → (tr .kind n ≡ READ → C) → (tr .kind n ≡ WRITE → C) → C
   by-kind f g = either (test-access (tr .kind n) .0 is) f g
 
-  -- nothing is to be done where both tables name x
-  passed-own : writer ≡ x → reader ≡ x → Passed c
+  -- nothing is to be done where both tables name `own`
+  passed-own : writer ≡ own → reader ≡ own → Passed c
   passed-own w r =
-      let out-w : In (group writer) left → ⊥ = λ i. x-active (subst (λ (z : ℕ). In (group z) left) w i) in
-      let out-r : In (group reader) left → ⊥ = λ i. x-active (subst (λ (z : ℕ). In (group z) left) r i) in
+      let out-w : In (group writer) left → ⊥ = λ i. own-active (subst (λ (z : ℕ). In (group z) left) w i) in
+      let out-r : In (group reader) left → ⊥ = λ i. own-active (subst (λ (z : ℕ). In (group z) left) r i) in
       passes-with c refl (λ i a b. refl) reader-small writer-small
       (by-kind (λ k. read-keeps k reader refl) (λ k. subst (λ (z : ℕ). Held READ z) (sym r) (read-moves k out-r)))
       (subst (λ (z : ℕ). Held WRITE z) (sym w) (write-moves out-w))
@@ -242,17 +245,17 @@ module _ {tr : Trace} {n graph : ℕ} (forward : Forward tr graph) (inside : n <
       passes-with (set c (AGAINST-WRITE + o) v) (simp length-set) (λ i a b. getD-set-other c (AGAINST-WRITE + o) i v 0 b) (rw r reader-small) (rw w sv) (rw r hr)
       (rw w hw) calm
 
-  passed-settled : (In (group writer) left → ⊥) → Passed (settledIn c x (tr .kind n) o)
-  unfolding settledIn
+  passed-settled : (In (group writer) left → ⊥) → Passed (settledIn c own (tr .kind n) o)
+  unfolding settledIn secondTable
   passed-settled out =
       let out-r : In (group reader) left → ⊥ = λ i. out (read-left i) in
       by-kind
       (λ k.
-      rw (ne-eqb (tr .kind n) WRITE (not-write k))
-      (passed-one x x-small (read-keeps k reader refl) (write-moves out) (λ q. out-r (race-read k .0 q))))
+      rw (ne-eqb (tr .kind n) WRITE (not-write k), set-set c (AGAINST-WRITE + o) own own)
+      (passed-one own own-small (read-keeps k reader refl) (write-moves out) (λ q. out-r (race-read k .0 q))))
       (λ k.
       rw (eq-eqb (tr .kind n) WRITE k)
-      (passed-two x x x-small x-small (read-moves k out-r) (write-moves out) (λ q. out (race-write k .0 q))))
+      (passed-two own own own-small own-small (read-moves k out-r) (write-moves out) (λ q. out (race-write k .0 q))))
 
   passed-topped : tr .kind n ≡ READ → In (group writer) left → (In (group reader) left → ⊥) → Passed (toppedIn c o)
   unfolding toppedIn
@@ -277,11 +280,11 @@ module _ {tr : Trace} {n graph : ℕ} (forward : Forward tr graph) (inside : n <
       (λ k. rw (eq-eqb (tr .kind n) WRITE k) (race-write k .1 i, refl))
 
   -- THE LAW OF ONE ACCESS.
-  pub access-law : Verdict (accessIn c x (tr .kind n) o .passed) (accessIn c x (tr .kind n) o .cells)
+  pub access-law : Verdict (accessIn c own (tr .kind n) o .passed) (accessIn c own (tr .kind n) o .cells)
   unfolding accessIn
   access-law =
-      by-test (eqb writer x && eqb reader x)
-      (λ e. let both = test-and _ _ (test-eq writer x) (test-eq reader x) .0 e in rw e (passed-own (both .0) (both .1)))
+      by-test (eqb writer own && eqb reader own)
+      (λ e. let both = test-and _ _ (test-eq writer own) (test-eq reader own) .0 e in rw e (passed-own (both .0) (both .1)))
       (λ e.
       rw e
       (by-test (isLeftIn c writer) (λ f. rw f (behind-law (l .flags writer writer-small .0 f)))

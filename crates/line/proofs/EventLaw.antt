@@ -8,11 +8,11 @@ use mathlib.Core.Logic.{inl, inr, _≢_}
 use native.Mathlib.Omega.{arith}
 use lib.Dec.{eqb, leb}
 use lib.ListN.{length}
-use borrow.Author.Tests.{eqb-true, eq-eqb, ne-eqb, leb-false, not-false}
+use borrow.Author.Tests.{eqb-true, eqb-false, eq-eqb, ne-eqb, leb-false, not-false}
 use Rattle.trace.specs.Trace.{Trace, FORK, JOIN, HALT, isKind, isAccess, LOCATIONS, TASKS}
 use Rattle.trace.specs.Line.{Line as TraceLine, Checked, passes, fails, row, isEmpty, isHead, isMember, haltOperand, stepByKind, step, lineAfter}
 use Rattle.trace.proofs.Tests.{by-test, either, tests-unique, tests-map, test-eq}
-use Rattle.trace.proofs.Lines.{line-more}
+use Rattle.trace.proofs.Lines.{line-more, passes-not-fails}
 use Rattle.trace.proofs.EventKinds.{rest-is-halt}
 use Rattle.trace.proofs.Stacks.{In, distinct-length, rename, updated}
 use Rattle.trace.proofs.Run.{Run, lineOf, start, access, fork, join, halt, used-numbers, stacks-length, in-line-small, distinct-stacks, groups}
@@ -21,12 +21,55 @@ use Rattle.forest.specs.Forest.{topOf, stays}
 use Rattle.forest.proofs.Tops.{top-is-top}
 use Rattle.forest.proofs.United.{is-top-stays}
 use Rattle.line.specs.declared.Line.{Line}
+use Rattle.line.specs.declared.Rule.the-variants.{Join}
 use Rattle.line.specs.Rules.{ruleOf}
 use Rattle.line.specs.Cells.{depths, runningIn, nearestIn, isUsedIn, startedIn, joinedIn}
-use Rattle.line.specs.Steps.{Stepped, rowIn, locationIn, forkIn, joinIn, haltIn, actIn, eventIn}
-use Rattle.line.specs.Held.{SameBeyond, LineCells, LineAt, LocationsAt}
+use Rattle.line.specs.Steps.{Stepped, goes, rowed, Movable, rowIn, locationIn, forkIn, joinIn, haltIn, actIn, eventIn}
+use Rattle.line.specs.Held.{SameBeyond, LineCells, LineAt, LocationsAt, Sound}
+use Rattle.line.proofs.Rows.{rule-join}
+use Rattle.line.proofs.Bounds.{depths-fit}
 use Rattle.line.proofs.Moves.{start-cells, running-is, nearest-is, fork-cells, halt-cells, unitable, join-cells, beyond-fork, beyond-halt, beyond-join}
 use Rattle.line.proofs.Locations.{locations-fork, locations-halt, locations-join}
+
+-- ---- what the code's answer says: the row that is met, or 0
+
+module _ (next : Line) (number : ℕ) (exit : List ℕ) {s : Stepped} (e : rowed next number exit ≡ s) where
+  pub row-none : number ≡ 0 → s ≡ goes next exit
+  unfolding rowed
+  row-none z = sym e ∙ rw (eq-eqb number 0 z)
+
+  pub row-some : number ≢ 0 → s ≡ record { result = fails number; cells = exit }
+  unfolding rowed
+  row-some z = sym e ∙ rw (ne-eqb number 0 z)
+
+-- A row that is passed.
+pub row-kept :
+    (c : List ℕ) (number : ℕ) (condition : Bool) (s : Stepped) (line : Line) → rowIn c number condition s .result ≡ passes line
+    → (condition ≡ false) × (s .result ≡ passes line) × (rowIn c number condition s .cells ≡ s .cells)
+unfolding rowIn
+row-kept c number true s line e = absurd (passes-not-fails e refl)
+row-kept c number false s line e = (refl, e, refl)
+
+-- Where no row is met, `after` has what it asks.
+pub movable :
+    (c exit : List ℕ) (line next : Line) (row kind task a : ℕ) → Sound c line → rowed next row exit ≡ eventIn c line kind task a → row ≡ 0 → Movable line kind
+unfolding eventIn actIn joinIn
+movable c exit line next row kind task a sound e none =
+    let five = row-kept c 5 _ _ next (ap (λ (s : Stepped). s .result) (row-none next row exit e none)) in
+    let six = row-kept c 6 _ _ next (five .1) in
+    let seven = row-kept c 7 _ _ next (six .1) in
+    let fit = depths-fit sound .1 in
+    record {
+      few-active = omega arith;
+      few-left = omega arith;
+      halts = λ k. let some = eqb-false (line .active) 0 (six .0) in omega arith;
+      joins = λ k.
+          let join : actIn c line Join a .result ≡ passes next = rw (← rule-join kind k) at (seven .1) in
+          let some = eqb-false (line .left) 0 (row-kept c 11 _ _ next join .0) in
+          omega arith;
+    }
+
+-- ---- the laws
 
 -- The starting line.
 pub line-start : (tr : Trace) (c : List ℕ) → 12288 ≤ length c → LineAt tr 0 (startedIn c) (depths 1 0)

@@ -6,19 +6,18 @@ use mathlib.Core.Bool.{Bool, true, false, cond, not, _&&_}
 use mathlib.Core.List.{List}
 use mathlib.Core.Logic.{_≢_}
 use native.Mathlib.Omega.{arith}
-use lib.Dec.{eqb}
+use lib.Dec.{eqb, leb}
 use lib.ListN.{getD, set}
 use borrow.Author.Tests.{le-leb, lt-leb, leb-true, leb-false, eq-eqb, ne-eqb}
-use Rattle.trace.specs.Trace.{WRITE, HALT, TASKS, isKind, isAccess}
+use Rattle.trace.specs.Trace.{WRITE, HALT, LOCATIONS, TASKS, isKind, isAccess}
 use Rattle.trace.proofs.Tests.{by-test}
 use Rattle.forest.specs.Forest.{topOf}
 use Rattle.line.specs.declared.Line.{Line}
 use Rattle.line.specs.declared.Rule.{Rule}
 use Rattle.line.specs.declared.Rule.the-variants.{Access, Fork, Join, Halt, Unknown}
-use Rattle.line.specs.declared.Step.the-variants.{Ok, Refused}
 use Rattle.line.specs.Rules.{ruleOf}
-use Rattle.line.specs.Cells.{IN-LEFT, AGAINST-READ, AGAINST-WRITE, isLeftIn}
-use Rattle.line.specs.Steps.{Stepped, stepped, goes, rowIn, actIn}
+use Rattle.line.specs.Cells.{depths, IN-LEFT, AGAINST-READ, AGAINST-WRITE, isLeftIn}
+use Rattle.line.specs.Steps.{Stepped, goes, rowed, afterIn, activeAfter, leftAfter, rowIn, locationRow, locationIn, actIn}
 use Rattle.line.specs.Accesses.{againstRead, againstWrite, accessed, toppedIn, behindIn}
 
 -- ---- tests: u is what the code read of v
@@ -54,9 +53,10 @@ second-passed false b e = refl
 -- ---- the rows of a step
 
 -- A row whose condition holds refuses.
-pub row-met : (c : List ℕ) (number : ℕ) (b : Bool) (next : Stepped) → b ≡ true → stepped (Refused number) c ≡ rowIn c number b next
-unfolding stepped rowIn
-row-met c number b next e = rw e
+pub row-met :
+    (c : List ℕ) (line : Line) (number : ℕ) (b : Bool) (s : Stepped) → eqb number 0 ≡ false → b ≡ true → rowed line number c ≡ rowIn c number b s
+unfolding rowed rowIn
+row-met c line number b s e f = rw (e, f)
 
 -- Any other leads to what comes next;
 pub row-passed : (x : Stepped) (c : List ℕ) (number : ℕ) (b : Bool) (next : Stepped) → b ≡ false → x ≡ next → x ≡ rowIn c number b next
@@ -64,19 +64,30 @@ unfolding rowIn
 row-passed x c number b next e f = rw e f
 
 -- at the end, to the line and the cells that a move leaves.
-pub step-goes : (line line′ : Line) (c c′ : List ℕ) → (line ≡ line′) × (c ≡ c′) → stepped (Ok line) c ≡ goes line′ c′
-unfolding stepped
-step-goes line line′ c c′ e = let l = e .0 in let m = e .1 in cc
+pub row-goes : (line : Line) (c d : List ℕ) → c ≡ d → rowed line 0 c ≡ goes line d
+unfolding rowed
+row-goes line c d e = ap (goes line) e
 
--- The rule's row, by the rule that a match told,
-pub act-told : (x : Stepped) (c : List ℕ) (line : Line) (r rule : Rule) (a : ℕ) → r ≡ rule → x ≡ actIn c line rule a → x ≡ actIn c line r a
-act-told x c line r rule a e f = rw e f
+pub location-told : (c : List ℕ) (line : Line) (row a : ℕ) → row ≡ locationRow a → rowed line row c ≡ locationIn c line a
+unfolding rowed rowIn locationRow locationIn
+location-told c line row a e = by-test (leb LOCATIONS a) (λ f. rw (e, f)) (λ f. rw (e, f))
 
--- and by the rule that was found.
-pub act-found : (x : Stepped) (c : List ℕ) (line : Line) (r rule : Rule) (a : ℕ) → r ≡ rule → x ≡ actIn c line r a → x ≡ actIn c line rule a
-act-found x c line r rule a e f = rw e at f
+pub unknown-told : (c : List ℕ) (line : Line) (a : ℕ) → rowed line 5 c ≡ actIn c line Unknown a
+unfolding rowed actIn
+unknown-told c line a = refl
 
-pub ruleset rows = (row-met, row-passed, step-goes, not-met, not-passed, le-leb, lt-leb, eq-eqb, ne-eqb, read-same, read-other, same-read, other-read)
+-- The rule's row, by the rule that a match told, and by the rule that was found.
+pub act-told :
+    (c exit : List ℕ) (line : Line) (row : ℕ) (r rule : Rule) (a : ℕ) → r ≡ rule → rowed (afterIn line rule) row exit ≡ actIn c line rule a
+    → rowed (afterIn line r) row exit ≡ actIn c line r a
+act-told c exit line row r rule a e f = rw e f
+
+pub act-found :
+    (c exit : List ℕ) (line : Line) (row : ℕ) (r rule : Rule) (a : ℕ) → r ≡ rule → rowed (afterIn line r) row exit ≡ actIn c line r a
+    → rowed (afterIn line rule) row exit ≡ actIn c line rule a
+act-found c exit line row r rule a e f = rw e at f
+
+pub ruleset rows = (row-met, row-passed, row-goes, not-met, not-passed, le-leb, lt-leb, eq-eqb, ne-eqb, read-same, read-other, same-read, other-read)
 
 -- ---- the rule of a kind
 
@@ -103,6 +114,23 @@ unfolding ruleOf isAccess
 rule-unknown k h =
     let no : (j : ℕ) → j ≤ 4 → eqb k j ≡ false = λ j i. ne-eqb k j (λ e. omega arith) in
     rw (no 0 (omega arith), no 1 (omega arith), no 2 (omega arith), no 3 (omega arith), no 4 (omega arith))
+
+-- The depths after an event, by its kind.
+pub after-told :
+    (line : Line) (kind active left : ℕ) → active ≡ activeAfter (line .active) kind → left ≡ leftAfter (line .left) kind
+    → depths active left ≡ afterIn line (ruleOf kind)
+unfolding activeAfter leftAfter ruleOf isAccess
+after-told line kind active left e f = rw (e, f) (by-kind kind)
+  where
+    by-kind : (k : ℕ) → depths (activeAfter (line .active) k) (leftAfter (line .left) k) ≡ afterIn line (ruleOf k)
+    by-kind zero = refl
+    by-kind (suc zero) = refl
+    by-kind (suc (suc zero)) = refl
+    by-kind (suc (suc (suc zero))) = refl
+    by-kind (suc (suc (suc (suc zero)))) = refl
+    by-kind (suc (suc (suc (suc (suc k))))) =
+        let no : (j : ℕ) → j ≤ 4 → eqb (suc (suc (suc (suc (suc k))))) j ≡ false = λ j i. ne-eqb _ j (λ e. omega arith) in
+        rw (no 0 (omega arith), no 1 (omega arith), no 2 (omega arith), no 3 (omega arith), no 4 (omega arith))
 
 -- 1 for the rule of no kind, else 0.
 abbrev unknown : Rule → ℕ

@@ -16,10 +16,10 @@ abbrev pub againstWrite : List ℕ → ℕ → ℕ
 againstWrite c l = getD c (AGAINST-WRITE + l) 0
 
 -- What `access` asks: the tables name tasks.
-pub record Accessible (c : List ℕ) (x l : ℕ) : Type 0 where
+pub record Accessible (c : List ℕ) (own l : ℕ) : Type 0 where
   pub room : WORKSPACE-CELLS ≤ length c
   pub forest : Forest c
-  pub task : x < TASKS
+  pub task : own < TASKS
   pub location : l < LOCATIONS
   pub read-task : againstRead c l < TASKS
   pub write-task : againstWrite c l < TASKS
@@ -32,11 +32,13 @@ pub record Accessed : Type 0 where
 abbrev pub accessed : Bool → List ℕ → Accessed
 accessed passed c = record { passed = passed; cells = c }
 
--- The task x is what later accesses are held against: writes, and after a write reads too.
+-- The table that an access stores to beside AGAINST-WRITE, or AGAINST-WRITE again.
+unfoldable pub secondTable : ℕ → ℕ
+secondTable kind = cond (eqb kind WRITE) AGAINST-READ AGAINST-WRITE
+
+-- The task `own` is what later accesses are held against: writes, and after a write reads too.
 unfoldable pub settledIn : List ℕ → ℕ → ℕ → ℕ → List ℕ
-settledIn c x kind l =
-    let write = set c (AGAINST-WRITE + l) x in
-    cond (eqb kind WRITE) (set write (AGAINST-READ + l) x) write
+settledIn c own kind l = set (set c (AGAINST-WRITE + l) own) (secondTable kind + l) own
 
 -- The groups stay, each named by its top.
 unfoldable pub toppedIn : List ℕ → ℕ → List ℕ
@@ -46,8 +48,8 @@ toppedIn c l = set (set c (AGAINST-WRITE + l) (topOf c (againstWrite c l))) (AGA
 unfoldable pub behindIn : List ℕ → ℕ → ℕ → Accessed
 behindIn c kind l = cond (eqb kind WRITE) (accessed false c) (cond (isLeftIn c (againstRead c l)) (accessed false c) (accessed true (toppedIn c l)))
 
--- An access of kind `kind` of the location l by the running task x. A failed one leaves the cells.
+-- An access of kind `kind` of the location l by the running task, whose group `own` is of. A failed one leaves the cells.
 unfoldable pub accessIn : List ℕ → ℕ → ℕ → ℕ → Accessed
-accessIn c x kind l =
-    cond (eqb (againstWrite c l) x && eqb (againstRead c l) x) (accessed true c)
-    (cond (isLeftIn c (againstWrite c l)) (behindIn c kind l) (accessed true (settledIn c x kind l)))
+accessIn c own kind l =
+    cond (eqb (againstWrite c l) own && eqb (againstRead c l) own) (accessed true c)
+    (cond (isLeftIn c (againstWrite c l)) (behindIn c kind l) (accessed true (settledIn c own kind l)))

@@ -1,15 +1,14 @@
 -- What one event does to the line in the cells: the rows of document 01 over the two stacks. Assumes nothing.
-use Prim.Native.Nat.{ℕ, _+_, _-_}
-use mathlib.Core.Bool.{Bool, true, false, not}
+use Prim.Native.Nat.{ℕ, _+_, _-_, _<_, _≤_}
+use mathlib.Core.Path.{_≡_}
+use mathlib.Core.Bool.{Bool, true, false, cond, not}
 use mathlib.Core.List.{List}
 use lib.Dec.{eqb, leb}
-use Rattle.trace.specs.Trace.{LOCATIONS, TASKS, isKind}
+use Rattle.trace.specs.Trace.{FORK, JOIN, HALT, LOCATIONS, TASKS, isKind}
 use Rattle.trace.specs.Line.{Checked, passes, fails}
 use Rattle.line.specs.declared.Line.{Line}
 use Rattle.line.specs.declared.Rule.{Rule}
 use Rattle.line.specs.declared.Rule.the-variants.{Access, Fork, Join, Halt, Unknown}
-use Rattle.line.specs.declared.Step.{Step}
-use Rattle.line.specs.declared.Step.the-variants.{Ok, Refused}
 use Rattle.line.specs.Rules.{ruleOf}
 use Rattle.line.specs.Cells.{depths, runningIn, nearestIn, isUsedIn, forkedIn, haltedIn, joinedIn}
 
@@ -18,33 +17,58 @@ pub record Stepped : Type 0 where
   pub result : Checked Line
   pub cells : List ℕ
 
--- What a step and the cells at its exit say.
-unfoldable pub stepped : Step → List ℕ → Stepped
-stepped (Ok line) c = record { result = passes line; cells = c }
-stepped (Refused number) c = record { result = fails number; cells = c }
-
 abbrev pub goes : Line → List ℕ → Stepped
 goes line c = record { result = passes line; cells = c }
+
+-- What the row that is met, or 0, and the cells at exit say: at 0 the line goes on to `next`.
+unfoldable pub rowed : Line → ℕ → List ℕ → Stepped
+rowed next number c = cond (eqb number 0) (goes next c) (record { result = fails number; cells = c })
+
+-- The line after an event that keeps this rule.
+abbrev pub afterIn : Line → Rule → Line
+afterIn line Access = line
+afterIn line Fork = depths (line .active + 1) (line .left)
+afterIn line Join = depths (line .active) (line .left - 1)
+afterIn line Halt = depths (line .active - 1) (line .left + 1)
+afterIn line Unknown = line
+
+-- Its depths, by the event's kind.
+unfoldable pub activeAfter : ℕ → ℕ → ℕ
+activeAfter active kind = cond (eqb kind FORK) (active + 1) (cond (eqb kind HALT) (active - 1) active)
+
+unfoldable pub leftAfter : ℕ → ℕ → ℕ
+leftAfter left kind = cond (eqb kind JOIN) (left - 1) (cond (eqb kind HALT) (left + 1) left)
+
+-- What `after` asks: there are few tasks, and there is one where the kind takes one away.
+pub record Movable (line : Line) (kind : ℕ) : Type 0 where
+  pub few-active : line .active ≤ TASKS
+  pub few-left : line .left ≤ TASKS
+  pub halts : kind ≡ HALT → 0 < line .active
+  pub joins : kind ≡ JOIN → 0 < line .left
 
 -- One row: a refusal leaves the cells.
 unfoldable pub rowIn : List ℕ → ℕ → Bool → Stepped → Stepped
 rowIn c number true next = record { result = fails number; cells = c }
 rowIn c number false next = next
 
+-- Row 8 has no cell to look at.
+unfoldable pub locationRow : ℕ → ℕ
+locationRow a = cond (leb LOCATIONS a) 8 0
+
 module _ (c : List ℕ) (line : Line) where
   unfoldable pub locationIn : ℕ → Stepped
-  locationIn a = rowIn c 8 (leb LOCATIONS a) (goes line c)
+  locationIn a = rowIn c 8 (leb LOCATIONS a) (goes (afterIn line Access) c)
 
   unfoldable pub forkIn : ℕ → Stepped
-  forkIn a = rowIn c 9 (leb TASKS a) (rowIn c 10 (isUsedIn c a) (goes (depths (line .active + 1) (line .left)) (forkedIn c line a)))
+  forkIn a = rowIn c 9 (leb TASKS a) (rowIn c 10 (isUsedIn c a) (goes (afterIn line Fork) (forkedIn c line a)))
 
   unfoldable pub joinIn : ℕ → Stepped
   joinIn a =
       rowIn c 11 (eqb (line .left) 0)
-      (rowIn c 11 (not (eqb (nearestIn c line) a)) (goes (depths (line .active) (line .left - 1)) (joinedIn c line)))
+      (rowIn c 11 (not (eqb (nearestIn c line) a)) (goes (afterIn line Join) (joinedIn c line)))
 
   unfoldable pub haltIn : ℕ → Stepped
-  haltIn a = rowIn c 12 (not (eqb a 0)) (goes (depths (line .active - 1) (line .left + 1)) (haltedIn c line))
+  haltIn a = rowIn c 12 (not (eqb a 0)) (goes (afterIn line Halt) (haltedIn c line))
 
   -- The row for the event's kind.
   unfoldable pub actIn : Rule → ℕ → Stepped

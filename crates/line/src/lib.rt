@@ -3,12 +3,13 @@
 ghost use mathlib.Core.Path.{_≡_};
 ghost use Prim.Native.Nat.{_+_, _-_, _≤_, _<_};
 ghost use lib.ListN.{length};
-ghost use Rattle.trace.specs.Trace.{TASKS, WORKSPACE-CELLS};
+ghost use Rattle.trace.specs.Trace.{JOIN, HALT, TASKS, WORKSPACE-CELLS};
 ghost use Rattle.forest.specs.Forest.{Forest, topOf};
 ghost use Rattle.line.specs.Rules.{ruleOf};
-ghost use Rattle.line.specs.Cells.{depths, runningIn, nearestIn, isLeftIn, startedIn, forkedIn, haltedIn, joinedIn};
-ghost use Rattle.line.specs.Steps.{stepped, locationIn, forkIn, joinIn, haltIn, actIn, eventIn};
-ghost use Rattle.line.specs.Accesses.{Accessible, againstWrite, accessed, settledIn, behindIn, accessIn};
+ghost use Rattle.line.specs.Cells.{AGAINST-WRITE, depths, runningIn, nearestIn, isLeftIn, startedIn, forkedIn, haltedIn, joinedIn};
+ghost use Rattle.line.specs.declared.Rule.the-variants.{Fork, Join, Halt};
+ghost use Rattle.line.specs.Steps.{afterIn, activeAfter, leftAfter, Movable, rowed, locationRow, forkIn, joinIn, haltIn, actIn, eventIn};
+ghost use Rattle.line.specs.Accesses.{Accessible, againstWrite, accessed, secondTable, settledIn, behindIn, accessIn};
 ghost use Rattle.line.specs.Held.{Sound};
 
 // At a group's top: 1 where the group is that of a task left of the running one.
@@ -73,7 +74,7 @@ fn nearest(ws: &[u16], line: Line) -> u16
 }
 
 // The top of a task's tree.
-fn top_of(ws: &[u16], task: u16) -> u16
+pub fn top_of(ws: &[u16], task: u16) -> u16
     requires { ⌜ Forest (now ws) ⌝ }
     requires { ⌜ task < TASKS ⌝ }
     ensures { λ r. ⌜ (r ≡ topOf (now (ws .entry)) task) × (r < TASKS) ⌝ }
@@ -93,52 +94,40 @@ pub fn is_left(ws: &[u16], task: u16) -> bool
 }
 
 // A fork: the child runs, and its parent stays below it.
-fn fork(ws: &mut [u16], line: Line, child: u16) -> Line
+fn fork(ws: &mut [u16], line: Line, child: u16)
     requires { ⌜ Sound (now ws) line ⌝ }
     requires { ⌜ child < TASKS ⌝ }
-    ensures { λ r. ⌜ (r ≡ depths (line .active + 1) (line .left)) × (now (ws .exit) ≡ forkedIn (now (ws .entry)) line child) ⌝ }
+    ensures { λ _. ⌜ now (ws .exit) ≡ forkedIn (now (ws .entry)) line child ⌝ }
 {
     let a = line.active;
     ws[ACTIVE + a] = child;
     forest::put(ws, USED, child, 1);
-    Line {
-        active: a + 1,
-        left: line.left,
-    }
 }
 
 // A halt: the running task is now the nearest left of the one that resumes, and its group is flagged.
-fn halt(ws: &mut [u16], line: Line) -> Line
+fn halt(ws: &mut [u16], line: Line)
     requires { ⌜ Sound (now ws) line ⌝ }
     requires { ⌜ 0 < line .active ⌝ }
-    ensures { λ r. ⌜ (r ≡ depths (line .active - 1) (line .left + 1)) × (now (ws .exit) ≡ haltedIn (now (ws .entry)) line) ⌝ }
+    ensures { λ _. ⌜ now (ws .exit) ≡ haltedIn (now (ws .entry)) line ⌝ }
 {
     let x = running(ws, line);
     let top = top_of(ws, x);
     let n = line.left;
     ws[LEFT + n] = x;
     forest::put(ws, IN_LEFT, top, 1);
-    Line {
-        active: line.active - 1,
-        left: n + 1,
-    }
 }
 
 // A join: the left neighbour's group becomes one with the running task's, whose flag is clear.
-fn join(ws: &mut [u16], line: Line) -> Line
+fn join(ws: &mut [u16], line: Line)
     requires { ⌜ Sound (now ws) line ⌝ }
     requires { ⌜ 0 < line .active ⌝ }
     requires { ⌜ 0 < line .left ⌝ }
-    ensures { λ r. ⌜ (r ≡ depths (line .active) (line .left - 1)) × (now (ws .exit) ≡ joinedIn (now (ws .entry)) line) ⌝ }
+    ensures { λ _. ⌜ now (ws .exit) ≡ joinedIn (now (ws .entry)) line ⌝ }
 {
     let a = top_of(ws, running(ws, line));
     let b = top_of(ws, nearest(ws, line));
     let top = forest::union(ws, a, b);
     forest::put(ws, IN_LEFT, top, 0);
-    Line {
-        active: line.active,
-        left: line.left - 1,
-    }
 }
 
 // The rules, one for each kind of event.
@@ -163,111 +152,159 @@ pub fn rule_of(kind: u8) -> Rule
     }
 }
 
-// What an event leads to: the next line, or the row that it meets.
-pub enum Step {
-    Ok(Line),
-    Refused(usize),
-}
+// The rows below answer the row that is met, or 0: a plain number, which comes back in a register. A line that came back through memory, field by field, would
+// be waited for at every event.
 
 // Row 8.
-fn access_row(ws: &mut [u16], line: Line, location: u16) -> Step
-    ensures { λ r. ⌜ stepped r (now (ws .exit)) ≡ locationIn (now (ws .entry)) line location ⌝ }
+fn location_row(location: u16) -> usize
+    ensures { λ r. ⌜ r ≡ locationRow location ⌝ }
 {
     if Line::LOCATIONS <= location {
-        return Step::Refused(8);
+        return 8;
     }
-    Step::Ok(line)
+    0
 }
 
 // Rows 9 and 10.
-fn fork_row(ws: &mut [u16], line: Line, child: u16) -> Step
+fn fork_row(ws: &mut [u16], line: Line, child: u16) -> usize
     requires { ⌜ Sound (now ws) line ⌝ }
-    ensures { λ r. ⌜ stepped r (now (ws .exit)) ≡ forkIn (now (ws .entry)) line child ⌝ }
+    ensures { λ r. ⌜ rowed (afterIn line Fork) r (now (ws .exit)) ≡ forkIn (now (ws .entry)) line child ⌝ }
 {
     if Line::TASKS <= child {
-        return Step::Refused(9);
+        return 9;
     }
     if forest::cell(ws, USED, child) != 0 {
-        return Step::Refused(10);
+        return 10;
     }
-    Step::Ok(fork(ws, line, child))
+    fork(ws, line, child);
+    0
 }
 
 // Row 11.
-fn join_row(ws: &mut [u16], line: Line, task: u16) -> Step
+fn join_row(ws: &mut [u16], line: Line, task: u16) -> usize
     requires { ⌜ Sound (now ws) line ⌝ }
     requires { ⌜ 0 < line .active ⌝ }
-    ensures { λ r. ⌜ stepped r (now (ws .exit)) ≡ joinIn (now (ws .entry)) line task ⌝ }
+    ensures { λ r. ⌜ rowed (afterIn line Join) r (now (ws .exit)) ≡ joinIn (now (ws .entry)) line task ⌝ }
 {
     if line.left == 0 {
-        return Step::Refused(11);
+        return 11;
     }
     if nearest(ws, line) != task {
-        return Step::Refused(11);
+        return 11;
     }
-    Step::Ok(join(ws, line))
+    join(ws, line);
+    0
 }
 
 // Row 12: "For halt it is 0."
-fn halt_row(ws: &mut [u16], line: Line, operand: u16) -> Step
+fn halt_row(ws: &mut [u16], line: Line, operand: u16) -> usize
     requires { ⌜ Sound (now ws) line ⌝ }
     requires { ⌜ 0 < line .active ⌝ }
-    ensures { λ r. ⌜ stepped r (now (ws .exit)) ≡ haltIn (now (ws .entry)) line operand ⌝ }
+    ensures { λ r. ⌜ rowed (afterIn line Halt) r (now (ws .exit)) ≡ haltIn (now (ws .entry)) line operand ⌝ }
 {
     if operand != 0 {
-        return Step::Refused(12);
+        return 12;
     }
-    Step::Ok(halt(ws, line))
+    halt(ws, line);
+    0
 }
 
 // The one row for the event's kind.
-fn act(ws: &mut [u16], line: Line, rule: Rule, operand: u16) -> Step
+fn act(ws: &mut [u16], line: Line, rule: Rule, operand: u16) -> usize
     requires { ⌜ Sound (now ws) line ⌝ }
     requires { ⌜ 0 < line .active ⌝ }
-    ensures { λ r. ⌜ stepped r (now (ws .exit)) ≡ actIn (now (ws .entry)) line rule operand ⌝ }
+    ensures { λ r. ⌜ rowed (afterIn line rule) r (now (ws .exit)) ≡ actIn (now (ws .entry)) line rule operand ⌝ }
 {
     match rule {
-        Rule::Access => access_row(ws, line, operand),
+        Rule::Access => location_row(operand),
         Rule::Fork => fork_row(ws, line, operand),
         Rule::Join => join_row(ws, line, operand),
         Rule::Halt => halt_row(ws, line, operand),
-        Rule::Unknown => Step::Refused(5),
+        Rule::Unknown => 5,
     }
 }
 
-// One event: rows 5, 6 and 7, then the one row for its kind.
-pub fn event(ws: &mut [u16], line: Line, kind: u8, task: u16, operand: u16) -> Step
+// One event: rows 5, 6 and 7, then the one row for its kind. Where none is met, the line goes on to `after`.
+pub fn event(ws: &mut [u16], line: Line, kind: u8, task: u16, operand: u16) -> usize
     requires { ⌜ Sound (now ws) line ⌝ }
-    ensures { λ r. ⌜ stepped r (now (ws .exit)) ≡ eventIn (now (ws .entry)) line kind task operand ⌝ }
+    ensures { λ r. ⌜ rowed (afterIn line (ruleOf kind)) r (now (ws .exit)) ≡ eventIn (now (ws .entry)) line kind task operand ⌝ }
 {
     let rule = rule_of(kind);
     if let Rule::Unknown = rule {
-        return Step::Refused(5);
+        return 5;
     }
     if line.active == 0 {
-        return Step::Refused(6);
+        return 6;
     }
     if task != running(ws, line) {
-        return Step::Refused(7);
+        return 7;
     }
     act(ws, line, rule, operand)
 }
 
-// The running task x is now what later accesses are held against.
-fn settle(ws: &mut [u16], x: u16, kind: u8, location: u16)
-    requires { ⌜ Accessible (now ws) x location ⌝ }
-    ensures { λ _. ⌜ now (ws .exit) ≡ settledIn (now (ws .entry)) x kind location ⌝ }
+// How many tasks are active after an event of this kind.
+fn active_after(active: usize, kind: u8) -> usize
+    requires { ⌜ (active ≤ TASKS) × (kind ≡ HALT → 0 < active) ⌝ }
+    ensures { λ r. ⌜ r ≡ activeAfter active kind ⌝ }
 {
-    forest::put(ws, AGAINST_WRITE, location, x);
-    if kind == 1 {
-        forest::put(ws, AGAINST_READ, location, x);
+    if kind == 2 {
+        return active + 1;
     }
+    if kind == 4 {
+        return active - 1;
+    }
+    active
+}
+
+// How many have halted and are not joined yet.
+fn left_after(left: usize, kind: u8) -> usize
+    requires { ⌜ (left ≤ TASKS) × (kind ≡ JOIN → 0 < left) ⌝ }
+    ensures { λ r. ⌜ r ≡ leftAfter left kind ⌝ }
+{
+    if kind == 3 {
+        return left - 1;
+    }
+    if kind == 4 {
+        return left + 1;
+    }
+    left
+}
+
+// The line after an event of this kind that met no row.
+pub fn after(line: Line, kind: u8) -> Line
+    requires { ⌜ Movable line kind ⌝ }
+    ensures { λ r. ⌜ r ≡ afterIn line (ruleOf kind) ⌝ }
+{
+    Line {
+        active: active_after(line.active, kind),
+        left: left_after(line.left, kind),
+    }
+}
+
+// The table that an access stores to beside AGAINST_WRITE. A read has none: it stores to AGAINST_WRITE again, which costs less than a branch on the kind that
+// no processor can foretell.
+fn second_table(kind: u8) -> usize
+    ensures { λ r. ⌜ (r ≡ secondTable kind) × (r ≤ AGAINST-WRITE) ⌝ }
+{
+    if kind == 1 {
+        return AGAINST_READ;
+    }
+    AGAINST_WRITE
+}
+
+// The running task's group, which `own` is of, is now what later accesses are held against.
+fn settle(ws: &mut [u16], own: u16, kind: u8, location: u16)
+    requires { ⌜ Accessible (now ws) own location ⌝ }
+    ensures { λ _. ⌜ now (ws .exit) ≡ settledIn (now (ws .entry)) own kind location ⌝ }
+{
+    forest::put(ws, AGAINST_WRITE, location, own);
+    forest::put(ws, second_table(kind), location, own);
 }
 
 // The group that a write is held against is left of the running task, so a write races, and a read does if the group that it is held against is left too.
 // Else both groups stay; each is named by its top from now on, so that the next search is short.
-fn behind(ws: &mut [u16], x: u16, top: u16, kind: u8, location: u16) -> bool
-    requires { ⌜ Accessible (now ws) x location ⌝ }
+fn behind(ws: &mut [u16], own: u16, top: u16, kind: u8, location: u16) -> bool
+    requires { ⌜ Accessible (now ws) own location ⌝ }
     requires { ⌜ top ≡ topOf (now ws) (againstWrite (now ws) location) ⌝ }
     ensures { λ r. ⌜ accessed r (now (ws .exit)) ≡ behindIn (now (ws .entry)) kind location ⌝ }
 {
@@ -283,22 +320,22 @@ fn behind(ws: &mut [u16], x: u16, top: u16, kind: u8, location: u16) -> bool
     true
 }
 
-// Whether an access of the running task x passes the race test. What conflicts with a read conflicts with a write, so one search is enough unless the
-// group that a write is held against is left of x.
-pub fn access(ws: &mut [u16], x: u16, kind: u8, location: u16) -> bool
-    requires { ⌜ Accessible (now ws) x location ⌝ }
-    ensures { λ r. ⌜ accessed r (now (ws .exit)) ≡ accessIn (now (ws .entry)) x kind location ⌝ }
+// Whether an access of the running task passes the race test; `own` is a task of its group, the top for a short search later. What conflicts with a read
+// conflicts with a write, so one search is enough unless the group that a write is held against is left of the running task.
+pub fn access(ws: &mut [u16], own: u16, kind: u8, location: u16) -> bool
+    requires { ⌜ Accessible (now ws) own location ⌝ }
+    ensures { λ r. ⌜ accessed r (now (ws .exit)) ≡ accessIn (now (ws .entry)) own kind location ⌝ }
 {
     let other = forest::cell(ws, AGAINST_WRITE, location);
-    if other == x {
-        if forest::cell(ws, AGAINST_READ, location) == x {
+    if other == own {
+        if forest::cell(ws, AGAINST_READ, location) == own {
             return true;
         }
     }
     let top = top_of(ws, other);
     if forest::cell(ws, IN_LEFT, top) != 0 {
-        return behind(ws, x, top, kind, location);
+        return behind(ws, own, top, kind, location);
     }
-    settle(ws, x, kind, location);
+    settle(ws, own, kind, location);
     true
 }

@@ -13,11 +13,11 @@ use Rattle.line.proofs.access.Tie as tie
 -- Past the first two tests, not both tables name the running task.
 unsettled : (c : tie.Joined1) →
     let args = c .before .before .before .before .args in
-    (eqb (againstWrite (now (args .ws)) (args .location)) (args .x) && eqb (againstRead (now (args .ws)) (args .location)) (args .x)) ≡ false
+    (eqb (againstWrite (now (args .ws)) (args .location)) (args .own) && eqb (againstRead (now (args .ws)) (args .location)) (args .own)) ≡ false
 unsettled c =
     let args = c .before .before .before .before .args in
-    let write = eqb (againstWrite (now (args .ws)) (args .location)) (args .x) in
-    let read = eqb (againstRead (now (args .ws)) (args .location)) (args .x) in
+    let write = eqb (againstWrite (now (args .ws)) (args .location)) (args .own) in
+    let read = eqb (againstRead (now (args .ws)) (args .location)) (args .own) in
     either (c .if1 .came)
     (λ w. second-passed write read (read-other _ _ _ (w .2 .ensures) (w .3 .left)))
     (λ w. first-passed write read (read-other _ _ _ (c .before .cell .ensures) (w .left)))

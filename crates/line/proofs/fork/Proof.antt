@@ -1,5 +1,4 @@
 -- `line::fork` meets its contract: at most 1,024 tasks are active, so the cell for one more is there. Assumes nothing.
-use mathlib.Core.Path.{refl}
 use native.Mathlib.Omega.{arith}
 use lib.ListN.{length-set}
 use Rattle.line.specs.Cells.{forkedIn}
@@ -16,6 +15,5 @@ fork-spec =
     (λ c. omega (arith, depths-fit (c .before .pre .0)))
     (λ c. omega (arith, depths-fit (c .before .pre .0)))
     (λ c κs. simp length-set (omega (arith, depths-fit (c .before .before .pre .0))))
-    (λ c. omega (arith, depths-fit (c .before .before .before .before .before .pre .0)))
     (λ c. simp length-set at (c .before .before .put .kept .0))
-    (λ c. (refl, cc)))
+    (λ c. cc))

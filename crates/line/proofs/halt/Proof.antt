@@ -1,5 +1,4 @@
 -- `line::halt` meets its contract: at most 1,024 tasks are left of the running one, so the cell for one more is there. Assumes nothing.
-use mathlib.Core.Path.{refl}
 use native.Mathlib.Omega.{arith}
 use borrow.Author.Needs.{needs}
 use lib.ListN.{length-set}
@@ -19,7 +18,5 @@ halt-spec =
     (λ c. omega (arith, depths-fit (c .before .before .before .before .before .pre .0)))
     (λ c. omega (arith, depths-fit (c .before .before .before .before .before .pre .0)))
     (λ c κs. simp length-set (omega (arith, depths-fit (c .before .before .before .before .before .before .pre .0))))
-    (λ c. search needs)
-    (λ c. omega (arith, depths-fit (c .before .before .before .before .before .before .before .before .before .before .pre .0)))
-    (λ c. simp length-set at (c .before .before .before .put .kept .0))
-    (λ c. (refl, cc)))
+    (λ c. simp length-set at (c .before .before .put .kept .0))
+    (λ c. cc))

@@ -1,5 +1,4 @@
 -- `line::join` meets its contract: the tops of the running task and of its left neighbour are the tops of two trees. Assumes nothing.
-use mathlib.Core.Path.{refl}
 use borrow.Author.Needs.{needs}
 use Rattle.line.specs.Cells.{joinedIn}
 use Rattle.line.proofs.Bounds.{running-small, nearest-small, unitable, union-flag}
@@ -27,5 +26,4 @@ join-spec =
     union-requires
     (λ c κs. search (needs, union-flag))
     (λ c. search needs)
-    (λ c. search needs)
-    (λ c. (refl, cc)))
+    (λ c. cc))

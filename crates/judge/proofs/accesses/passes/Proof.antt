@@ -11,7 +11,7 @@ access-requires c κs =
     let low = own .before .before in
     let start = low .before .before .before .before .before .before in
     access-asks (start .args .kinds .now) (start .args .tasks .now) (start .args .operands .now) (length (start .args .kinds .now)) (start .args .i) (start .args .x)
-    (start .args .ws .now) (start .pre .1 .0) (start .pre .1 .1) (low .if1 .left) (own .if2 .left) (c .before .if3 .left)
+    (start .args .top) (start .args .ws .now) (start .pre .1 .0) (start .pre .1 .1) (low .if1 .left) (own .if2 .left) (c .before .if3 .left)
 
 returns-4 : tie.Need-returns-4
 returns-4 c =
@@ -20,7 +20,7 @@ returns-4 c =
     let low = own .before .before in
     let start = low .before .before .before .before .before .before in
     access-answers (start .args .kinds .now) (start .args .tasks .now) (start .args .operands .now) (length (start .args .kinds .now)) (start .args .i)
-    (start .args .x) (start .args .ws .now) (start .pre .1 .0) (start .pre .1 .1) (low .if1 .left) (own .if2 .left) (called .before .before .if3 .left)
+    (start .args .x) (start .args .top) (start .args .ws .now) (start .pre .1 .0) (start .pre .1 .1) (low .if1 .left) (own .if2 .left) (called .before .before .if3 .left)
     (called .access .result) _ (called .access .ensures)
 
 pub passes-spec : {M : Type 1} → statement M

@@ -8,10 +8,10 @@ use Rattle.judge.proofs.accesses.skip.Statement.{statement}
 use Rattle.judge.proofs.accesses.skip.Tie as tie
 
 abbrev Inv-loop : tie.InvT-loop
-Inv-loop kinds tasks operands ws₀ x from i₀ ws i = SkipLoop kinds tasks operands x from ws₀ ws i
+Inv-loop kinds tasks operands ws₀ x top from i₀ ws i = SkipLoop kinds tasks operands x top from ws₀ ws i
 
 abbrev μ-loop : tie.MeasureT-loop
-μ-loop kinds tasks operands ws₀ x from i₀ ws i = length kinds - i
+μ-loop kinds tasks operands ws₀ x top from i₀ ws i = length kinds - i
 
 loop-holds : tie.Need-loop-holds Inv-loop μ-loop
 loop-holds c = search (needs, skip-begin)

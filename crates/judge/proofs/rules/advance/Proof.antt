@@ -1,6 +1,7 @@
 -- `judge::rules::advance` meets its contract: the law of one event. Assumes nothing.
 use borrow.Author.Needs.{needs}
-use Rattle.judge.proofs.Walking.{event-says}
+use Rattle.line.proofs.EventLaw.{movable}
+use Rattle.judge.proofs.Walking.{says-refused, says-ok}
 use Rattle.judge.proofs.rules.advance.Statement.{statement}
 use Rattle.judge.proofs.rules.advance.Tie as tie
 
@@ -15,4 +16,7 @@ advance-spec =
     (λ c. search needs)
     (λ c κs. search needs)
     (λ c. search needs)
-    (λ c. search event-says))
+    (λ c. search says-refused)
+    (λ c κs. search movable)
+    (λ c. search needs)
+    (λ c. search says-ok))
