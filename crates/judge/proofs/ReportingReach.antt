@@ -32,7 +32,7 @@ use Rattle.judge.specs.declared.rules.Walked.{Walked}
 use Rattle.judge.specs.declared.rules.Walked.the-variants.{Held, Broken}
 use Rattle.judge.specs.State.{RaceAt}
 use Rattle.judge.specs.Walks.{WalkSays}
-use Rattle.judge.specs.Reports.{LIVE, MARK, Filled, liveIn, SmallTasks, liveAt, addedAt, accessesConflict, unorderedIn, FirstUnordered, MarksBefore, PairFound, Rewound, MarksExtended}
+use Rattle.judge.specs.Reports.{LIVE, MARK, Filled, liveIn, SmallTasks, liveAt, addedAt, kindsConflict, unorderedIn, FirstUnordered, MarksBefore, PairFound, Rewound, MarksExtended}
 use Rattle.judge.proofs.Walking.{beyond-trans}
 use Rattle.judge.proofs.OrderingTest.{task-small}
 
@@ -90,7 +90,7 @@ module _ {tr : Trace} {n t : ℕ} {c d : List ℕ} (r : RaceAt tr n t c) (f : Fi
 
   -- The search's test is the race with t.
   test-unordered : (p : ℕ) → p < t → Tests (unorderedIn tr d t p) (Race tr graph p t)
-  unfolding unorderedIn accessesConflict
+  unfolding unorderedIn kindsConflict
   test-unordered p h =
       tests-map
       (λ w.
@@ -99,20 +99,19 @@ module _ {tr : Trace} {n t : ℕ} {c d : List ℕ} (r : RaceAt tr n t c) (f : Fi
             record {
               first-event = let i = t-event in omega arith;
               second-event = t-event;
-              first-access = w .0 .0 .0;
+              first-access = w .1 .0 .0;
               second-access = r .access;
-              one-location = w .0 .0 .1;
-              kinds-conflict = w .0 .1;
+              one-location = w .0;
+              kinds-conflict = w .1 .0 .1;
             };
-        not-forth = w .1;
+        not-forth = w .1 .1;
         not-back = λ path. let back = reach-le forward path in omega arith;
       })
       (λ race.
       let conflict = race .conflict in
-      (((conflict .first-access, conflict .one-location), conflict .kinds-conflict), race .not-forth))
-      (test-and _ _
-      (test-and _ _ (test-and _ _ (test-self (isAccess (tr .kind p))) (test-eq (tr .operand p) (tr .operand t))) (test-self (conflicting (tr .kind p) (tr .kind t))))
-      (test-not-live p h))
+      (conflict .one-location, ((conflict .first-access, conflict .kinds-conflict), race .not-forth)))
+      (test-and _ _ (test-eq (tr .operand p) (tr .operand t))
+      (test-and _ _ (test-and _ _ (test-self (isAccess (tr .kind p))) (test-self (conflicting (tr .kind p) (tr .kind t)))) (test-not-live p h)))
 
   -- What the search finds is the partner.
   partner-found : {s : ℕ} → FirstUnordered tr d t s → IsRace tr n s t

@@ -59,14 +59,13 @@ addedAt c tasks p = cond (eqb (liveAt c tasks p) 0) (getD c (MARK + p) 0) 1
 
 -- ---- the partner
 
--- Of an event of kind j and operand a, and an access of kind k to the location b: the two conflict.
-unfoldable pub accessesConflict : ℕ → ℕ → ℕ → ℕ → Bool
-accessesConflict j a k b = isAccess j && eqb a b && conflicting j k
+-- An event of kind j conflicts with an access of kind k to its location.
+unfoldable pub kindsConflict : ℕ → ℕ → Bool
+kindsConflict j k = isAccess j && conflicting j k
 
 -- Event p conflicts with the access t, and the table LIVE says that it does not reach t.
 unfoldable pub unorderedIn : Trace → List ℕ → ℕ → ℕ → Bool
-unorderedIn tr c t p =
-    accessesConflict (tr .kind p) (tr .operand p) (tr .kind t) (tr .operand t) && eqb (getD c (LIVE + tr .task p) 0) 0
+unorderedIn tr c t p = eqb (tr .operand p) (tr .operand t) && (kindsConflict (tr .kind p) (tr .kind t) && eqb (getD c (LIVE + tr .task p) 0) 0)
 
 -- r is the first such event before t, or t.
 pub record FirstUnordered (tr : Trace) (c : List ℕ) (t r : ℕ) : Type 0 where

@@ -143,8 +143,7 @@ pub fn ordering(
             position: 0,
         });
     }
-    let n = kinds.len();
     let answer = order::order(kinds, tasks, operands, ws, p, q);
-    forest::clear(ws, WORKSPACE_CELLS + n);
+    forest::clear(ws, WORKSPACE_CELLS + kinds.len());
     answer
 }

@@ -15,9 +15,6 @@ use line::Line;
 use trace::Ordering;
 use trace::Refusal;
 
-// The kind of a join.
-const JOIN: u8 = 3;
-
 // Row 13: p or q is no position of the trace.
 const UNKNOWN_POSITION: usize = 13;
 
@@ -104,7 +101,7 @@ fn ask(
     requires { ⌜ LineAt (traceOf (now kinds) (now tasks) (now operands)) q (now ws) line ⌝ }
     ensures { λ r. ⌜ AskSays (traceOf (now (kinds .entry)) (now (tasks .entry)) (now (operands .entry))) p q (now (ws .entry)) (now (ws .exit)) r ⌝ }
 {
-    if kinds[q] == JOIN {
+    if kinds[q] == line::JOIN {
         return ask_join(kinds, tasks, operands, ws, line, p, q);
     }
     ask_other(kinds, tasks, operands, ws, line, p, q)

@@ -12,7 +12,7 @@ ghost use Rattle.trace.specs.Demands.{KeepsRules};
 ghost use Rattle.trace.proofs.Sizes.{Sized, Roomy};
 ghost use Rattle.forest.specs.Forest.{Forest};
 ghost use Rattle.judge.specs.State.{RaceAt};
-ghost use Rattle.judge.specs.Reports.{Reported, LIVE, MARK, Filled, liveIn, SmallTasks, liveAt, addedAt, accessesConflict, FirstUnordered, PairFound, Rewound, MarksExtended, marked, Marks, markedD};
+ghost use Rattle.judge.specs.Reports.{Reported, LIVE, MARK, Filled, liveIn, SmallTasks, liveAt, addedAt, kindsConflict, unorderedIn, FirstUnordered, PairFound, Rewound, MarksExtended, marked, Marks, markedD};
 use crate::rules;
 use line::Line;
 
@@ -49,18 +49,32 @@ fn survey(ws: &mut [u16])
     }
 }
 
-// Whether an event conflicts with an access of kind `other`: "they have one location and at least one is a write".
-fn conflicts(kind: u8, operand: u16, other: u8, location: u16) -> bool
+// Whether an event of this kind conflicts with an access to its location, of kind `other`: "at least one is a write".
+fn conflicts(kind: u8, other: u8) -> bool
     requires { ⌜ isAccess other ≡ true ⌝ }
-    ensures { λ r. ⌜ r ≡ accessesConflict kind operand other location ⌝ }
+    ensures { λ r. ⌜ r ≡ kindsConflict kind other ⌝ }
 {
-    if operand != location {
-        return false;
-    }
     if 1 < kind {
         return false;
     }
     kind + other != 0
+}
+
+// Whether event s conflicts with the access t and does not reach it. Most events have another location, so that is asked first.
+fn is_partner(kinds: &[u8], tasks: &[u16], operands: &[u16], ws: &[u16], s: usize, t: usize) -> bool
+    requires { ⌜ Sized (now kinds) (now tasks) (now operands) (now ws) (length (now kinds)) ⌝ }
+    requires { ⌜ (s < t) × (t < length (now kinds)) ⌝ }
+    requires { ⌜ isAccess (getD (now kinds) t 0) ≡ true ⌝ }
+    requires { ⌜ SmallTasks (now tasks) t ⌝ }
+    ensures { λ r. ⌜ r ≡ unorderedIn (traceOf (now (kinds .entry)) (now (tasks .entry)) (now (operands .entry))) (now (ws .entry)) t s ⌝ }
+{
+    if operands[s] != operands[t] {
+        return false;
+    }
+    if !conflicts(kinds[s], kinds[t]) {
+        return false;
+    }
+    forest::cell(ws, LIVE, tasks[s]) == 0
 }
 
 // The first event before t that conflicts with t and does not reach it.
@@ -71,14 +85,10 @@ fn partner(kinds: &[u8], tasks: &[u16], operands: &[u16], ws: &[u16], t: usize) 
     requires { ⌜ SmallTasks (now tasks) t ⌝ }
     ensures { λ r. ⌜ FirstUnordered (traceOf (now (kinds .entry)) (now (tasks .entry)) (now (operands .entry))) (now (ws .entry)) t r ⌝ }
 {
-    let kind = kinds[t];
-    let location = operands[t];
     let mut s = 0;
     while s < t {
-        if conflicts(kinds[s], operands[s], kind, location) {
-            if forest::cell(ws, LIVE, tasks[s]) == 0 {
-                return s;
-            }
+        if is_partner(kinds, tasks, operands, ws, s, t) {
+            return s;
         }
         s += 1;
     }

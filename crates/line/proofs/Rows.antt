@@ -9,15 +9,15 @@ use native.Mathlib.Omega.{arith}
 use lib.Dec.{eqb, leb}
 use lib.ListN.{getD, set}
 use borrow.Author.Tests.{le-leb, lt-leb, leb-true, leb-false, eq-eqb, ne-eqb}
-use Rattle.trace.specs.Trace.{WRITE, HALT, LOCATIONS, TASKS, isKind, isAccess}
+use Rattle.trace.specs.Trace.{WRITE, FORK, JOIN, HALT, LOCATIONS, TASKS, isKind, isAccess}
 use Rattle.trace.proofs.Tests.{by-test}
 use Rattle.forest.specs.Forest.{topOf}
 use Rattle.line.specs.declared.Line.{Line}
 use Rattle.line.specs.declared.Rule.{Rule}
 use Rattle.line.specs.declared.Rule.the-variants.{Access, Fork, Join, Halt, Unknown}
 use Rattle.line.specs.Rules.{ruleOf}
-use Rattle.line.specs.Cells.{depths, IN-LEFT, AGAINST-READ, AGAINST-WRITE, isLeftIn}
-use Rattle.line.specs.Steps.{Stepped, goes, rowed, afterIn, activeAfter, leftAfter, rowIn, locationRow, locationIn, actIn}
+use Rattle.line.specs.Cells.{IN-LEFT, AGAINST-READ, AGAINST-WRITE, isLeftIn}
+use Rattle.line.specs.Steps.{Stepped, goes, rowed, afterIn, rowIn, locationRow, locationIn, actIn}
 use Rattle.line.specs.Accesses.{againstRead, againstWrite, accessed, toppedIn, behindIn}
 
 -- ---- tests: u is what the code read of v
@@ -115,22 +115,20 @@ rule-unknown k h =
     let no : (j : ℕ) → j ≤ 4 → eqb k j ≡ false = λ j i. ne-eqb k j (λ e. omega arith) in
     rw (no 0 (omega arith), no 1 (omega arith), no 2 (omega arith), no 3 (omega arith), no 4 (omega arith))
 
--- The depths after an event, by its kind.
-pub after-told :
-    (line : Line) (kind active left : ℕ) → active ≡ activeAfter (line .active) kind → left ≡ leftAfter (line .left) kind
-    → depths active left ≡ afterIn line (ruleOf kind)
-unfolding activeAfter leftAfter ruleOf isAccess
-after-told line kind active left e f = rw (e, f) (by-kind kind)
-  where
-    by-kind : (k : ℕ) → depths (activeAfter (line .active) k) (leftAfter (line .left) k) ≡ afterIn line (ruleOf k)
-    by-kind zero = refl
-    by-kind (suc zero) = refl
-    by-kind (suc (suc zero)) = refl
-    by-kind (suc (suc (suc zero))) = refl
-    by-kind (suc (suc (suc (suc zero)))) = refl
-    by-kind (suc (suc (suc (suc (suc k))))) =
-        let no : (j : ℕ) → j ≤ 4 → eqb (suc (suc (suc (suc (suc k))))) j ≡ false = λ j i. ne-eqb _ j (λ e. omega arith) in
-        rw (no 0 (omega arith), no 1 (omega arith), no 2 (omega arith), no 3 (omega arith), no 4 (omega arith))
+-- The line after an event, by its kind.
+module _ (line : Line) (kind : ℕ) where
+  pub after-fork : kind ≡ 2 → afterIn line Fork ≡ afterIn line (ruleOf kind)
+  after-fork e = ap (afterIn line) (rule-fork kind e)
+
+  pub after-join : kind ≡ 3 → afterIn line Join ≡ afterIn line (ruleOf kind)
+  after-join e = ap (afterIn line) (rule-join kind e)
+
+  pub after-halt : kind ≡ 4 → afterIn line Halt ≡ afterIn line (ruleOf kind)
+  after-halt e = ap (afterIn line) (rule-halt kind e)
+
+  pub after-other : kind ≢ 2 → kind ≢ 3 → kind ≢ 4 → line ≡ afterIn line (ruleOf kind)
+  unfolding ruleOf
+  after-other f j h = rw (ne-eqb kind FORK f, ne-eqb kind JOIN j, ne-eqb kind HALT h) (by-test (isAccess kind) (λ e. rw e) (λ e. rw e))
 
 -- 1 for the rule of no kind, else 0.
 abbrev unknown : Rule → ℕ

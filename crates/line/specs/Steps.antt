@@ -4,7 +4,7 @@ use mathlib.Core.Path.{_≡_}
 use mathlib.Core.Bool.{Bool, true, false, cond, not}
 use mathlib.Core.List.{List}
 use lib.Dec.{eqb, leb}
-use Rattle.trace.specs.Trace.{FORK, JOIN, HALT, LOCATIONS, TASKS, isKind}
+use Rattle.trace.specs.Trace.{JOIN, HALT, LOCATIONS, TASKS, isKind}
 use Rattle.trace.specs.Line.{Checked, passes, fails}
 use Rattle.line.specs.declared.Line.{Line}
 use Rattle.line.specs.declared.Rule.{Rule}
@@ -31,13 +31,6 @@ afterIn line Fork = depths (line .active + 1) (line .left)
 afterIn line Join = depths (line .active) (line .left - 1)
 afterIn line Halt = depths (line .active - 1) (line .left + 1)
 afterIn line Unknown = line
-
--- Its depths, by the event's kind.
-unfoldable pub activeAfter : ℕ → ℕ → ℕ
-activeAfter active kind = cond (eqb kind FORK) (active + 1) (cond (eqb kind HALT) (active - 1) active)
-
-unfoldable pub leftAfter : ℕ → ℕ → ℕ
-leftAfter left kind = cond (eqb kind JOIN) (left - 1) (cond (eqb kind HALT) (left + 1) left)
 
 -- What `after` asks: there are few tasks, and there is one where the kind takes one away.
 pub record Movable (line : Line) (kind : ℕ) : Type 0 where

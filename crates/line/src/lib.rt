@@ -3,12 +3,12 @@
 ghost use mathlib.Core.Path.{_≡_};
 ghost use Prim.Native.Nat.{_+_, _-_, _≤_, _<_};
 ghost use lib.ListN.{length};
-ghost use Rattle.trace.specs.Trace.{JOIN, HALT, TASKS, WORKSPACE-CELLS};
+ghost use Rattle.trace.specs.Trace.{TASKS, WORKSPACE-CELLS};
 ghost use Rattle.forest.specs.Forest.{Forest, topOf};
 ghost use Rattle.line.specs.Rules.{ruleOf};
 ghost use Rattle.line.specs.Cells.{AGAINST-WRITE, depths, runningIn, nearestIn, isLeftIn, startedIn, forkedIn, haltedIn, joinedIn};
 ghost use Rattle.line.specs.declared.Rule.the-variants.{Fork, Join, Halt};
-ghost use Rattle.line.specs.Steps.{afterIn, activeAfter, leftAfter, Movable, rowed, locationRow, forkIn, joinIn, haltIn, actIn, eventIn};
+ghost use Rattle.line.specs.Steps.{afterIn, Movable, rowed, locationRow, forkIn, joinIn, haltIn, actIn, eventIn};
 ghost use Rattle.line.specs.Accesses.{Accessible, againstWrite, accessed, secondTable, settledIn, behindIn, accessIn};
 ghost use Rattle.line.specs.Held.{Sound};
 
@@ -31,6 +31,13 @@ const ACTIVE: usize = 8192;
 
 // The tables that are read before they are written: the forest's two, IN_LEFT, USED and those of the locations.
 const CLEARED: usize = 6144;
+
+// The kinds of the events that move the line.
+pub const FORK: u8 = 2;
+
+pub const JOIN: u8 = 3;
+
+pub const HALT: u8 = 4;
 
 // How many tasks are active, and how many have halted and are not joined yet.
 pub struct Line {
@@ -242,43 +249,30 @@ pub fn event(ws: &mut [u16], line: Line, kind: u8, task: u16, operand: u16) -> u
     act(ws, line, rule, operand)
 }
 
-// How many tasks are active after an event of this kind.
-fn active_after(active: usize, kind: u8) -> usize
-    requires { ⌜ (active ≤ TASKS) × (kind ≡ HALT → 0 < active) ⌝ }
-    ensures { λ r. ⌜ r ≡ activeAfter active kind ⌝ }
-{
-    if kind == 2 {
-        return active + 1;
-    }
-    if kind == 4 {
-        return active - 1;
-    }
-    active
-}
-
-// How many have halted and are not joined yet.
-fn left_after(left: usize, kind: u8) -> usize
-    requires { ⌜ (left ≤ TASKS) × (kind ≡ JOIN → 0 < left) ⌝ }
-    ensures { λ r. ⌜ r ≡ leftAfter left kind ⌝ }
-{
-    if kind == 3 {
-        return left - 1;
-    }
-    if kind == 4 {
-        return left + 1;
-    }
-    left
-}
-
 // The line after an event of this kind that met no row.
 pub fn after(line: Line, kind: u8) -> Line
     requires { ⌜ Movable line kind ⌝ }
     ensures { λ r. ⌜ r ≡ afterIn line (ruleOf kind) ⌝ }
 {
-    Line {
-        active: active_after(line.active, kind),
-        left: left_after(line.left, kind),
+    if kind == FORK {
+        return Line {
+            active: line.active + 1,
+            left: line.left,
+        };
     }
+    if kind == JOIN {
+        return Line {
+            active: line.active,
+            left: line.left - 1,
+        };
+    }
+    if kind == HALT {
+        return Line {
+            active: line.active - 1,
+            left: line.left + 1,
+        };
+    }
+    line
 }
 
 // The table that an access stores to beside AGAINST_WRITE. A read has none: it stores to AGAINST_WRITE again, which costs less than a branch on the kind that
