@@ -1,12 +1,10 @@
 -- What the ordering call answers: the row of the first event that breaks a rule, else row 13 or whether p reaches q. Assumes nothing.
 use Prim.Native.Nat.{ℕ, suc, _<_, _≤_}
 use mathlib.Core.Path.{_≡_, refl, sym, ap, _∙_}
-use mathlib.Core.Bool.{Bool, true, false, not, _&&_, and-false}
+use mathlib.Core.Bool.{Bool, true, false, not, _&&_}
 use mathlib.Core.List.{List}
-use mathlib.Core.Logic.{_⊎_}
 use native.Mathlib.Omega.{arith}
 use lib.Dec.{eqb, ltb}
-use borrow.Author.Tests.{lt-ltb, le-ltb}
 use Rattle.trace.specs.Trace.{Trace}
 use Rattle.trace.specs.Line.{Line as TraceLine, Checked, passes, fails, row, haltOperand, lineAfter}
 use Rattle.trace.specs.Graph.{Reach, here}
@@ -15,7 +13,7 @@ use Rattle.trace.specs.Outcome.{Reply, says, refused, orderingSaid, ordering}
 use Rattle.trace.specs.Answers.{orderingReply}
 use Rattle.trace.specs.Demands.{BreaksFirst}
 use Rattle.trace.specs.declared.Ordering.{Ordering}
-use Rattle.trace.proofs.Tests.{either, Tests, tests-unique, tests-map, test-eq}
+use Rattle.trace.proofs.Tests.{Tests, tests-unique, tests-map, test-eq, test-lt, test-and}
 use Rattle.trace.proofs.Paths.{reach-le}
 use Rattle.trace.proofs.Lines.{line-more, fails-later, graph-broken}
 use Rattle.trace.proofs.Forward.{forward}
@@ -96,29 +94,35 @@ module _ (tr : Trace) (n p q : ℕ) where
   ordering-is (passes line) unknown e = rw e refl
   ordering-is (fails number) unknown e = refl
 
-module _ {tr : Trace} {n p q : ℕ} {entry exit : List ℕ} {answer : Ordering} where
+-- Both are positions of the trace: each is.
+pub positions-below : (n p q : ℕ) {b : Bool} → b ≡ (ltb p n && ltb q n) → b ≡ true → (p < n) × (q < n)
+positions-below n p q e told = test-and _ _ (test-lt p n) (test-lt q n) .0 (sym e ∙ told)
+
+module _ {tr : Trace} {n p q : ℕ} {entry exit : List ℕ} {answer : Ordering} {b : Bool} (both : b ≡ (ltb p n && ltb q n)) where
   -- THE ANSWER where both are positions of the trace,
-  pub says-reach : p < n → q < n → Answered tr n entry exit (says (reach? tr n p q)) (orderingReply answer) → OrderSays tr n p q entry exit answer
+  pub says-reach : b ≡ true → Answered tr n entry exit (says (reach? tr n p q)) (orderingReply answer) → OrderSays tr n p q entry exit answer
   unfolding orderingSaid row
-  says-reach hp hq a =
-      let known : not (ltb p n && ltb q n) ≡ false = rw (lt-ltb p n hp, lt-ltb q n hq) in
-      record { rest = rest-beyond n (a .beyond); right = a .right ∙ ordering-is tr n p q (lineAfter haltOperand tr n) false known }
+  says-reach told a =
+      record {
+        rest = rest-beyond n (a .beyond);
+        right = a .right ∙ ordering-is tr n p q (lineAfter haltOperand tr n) false (ap not (sym both ∙ told));
+      }
 
   -- and where one is not.
   pub says-unknown :
-      {kept : Reply Bool} → (n ≤ p) ⊎ (n ≤ q) → kept ≡ refused 13 0 → Answered tr n entry exit kept (orderingReply answer)
+      {kept : Reply Bool} → b ≡ false → kept ≡ refused 13 0 → Answered tr n entry exit kept (orderingReply answer)
       → OrderSays tr n p q entry exit answer
   unfolding orderingSaid row
-  says-unknown out e a =
-      let unknown : not (ltb p n && ltb q n) ≡ true =
-      either out (λ h. rw (le-ltb p n h)) (λ h. rw (le-ltb q n h, and-false)) in
+  says-unknown told e a =
       record {
         rest = rest-beyond n (a .beyond);
         right =
             a .right
-            ∙ (ap (λ (k : Reply Bool). unlessBroken tr n k (lineAfter haltOperand tr n)) e ∙ ordering-is tr n p q (lineAfter haltOperand tr n) true unknown);
+            ∙ (ap (λ (k : Reply Bool). unlessBroken tr n k (lineAfter haltOperand tr n)) e
+            ∙ ordering-is tr n p q (lineAfter haltOperand tr n) true (ap not (sym both ∙ told)));
       }
 
+module _ {tr : Trace} {n p q : ℕ} {entry exit : List ℕ} {answer : Ordering} where
   -- Cells past the tables did not change before either.
   pub says-after : {before : List ℕ} → SameBeyond before entry → OrderSays tr n p q entry exit answer → OrderSays tr n p q before exit answer
   says-after b o = record { rest = rest-trans (rest-beyond n b) (o .rest); right = o .right }

@@ -1,5 +1,7 @@
 // The ordering call past the size checks: does event p reach event q?
 ghost use mathlib.Core.Path.{_≡_};
+ghost use mathlib.Core.Bool.{_&&_};
+ghost use lib.Dec.{ltb};
 ghost use Prim.Native.Nat.{_+_, _≤_, _<_};
 ghost use lib.ListN.{length};
 ghost use Rattle.trace.specs.Trace.{traceOf, JOIN};
@@ -37,6 +39,16 @@ fn yes_or_no(reaches: bool) -> Ordering
         return Ordering::Yes;
     }
     Ordering::No
+}
+
+// Whether both are positions of a trace of n events.
+fn are_positions(n: usize, p: usize, q: usize) -> bool
+    ensures { λ r. ⌜ r ≡ ltb p n && ltb q n ⌝ }
+{
+    if n <= p {
+        return false;
+    }
+    q < n
 }
 
 // Event q joins: an earlier event reaches it exactly if, after the step, its task's group is not left of the running task.
@@ -195,19 +207,7 @@ fn order_all(
     requires { ⌜ LineAt (traceOf (now kinds) (now tasks) (now operands)) 0 (now ws) start ⌝ }
     ensures { λ r. ⌜ OrderSays (traceOf (now (kinds .entry)) (now (tasks .entry)) (now (operands .entry))) (length (now (kinds .entry))) p q (now (ws .entry)) (now (ws .exit)) r ⌝ }
 {
-    let n = kinds.len();
-    if n <= p {
-        return finish(
-            kinds,
-            tasks,
-            operands,
-            ws,
-            start,
-            0,
-            refuse(UNKNOWN_POSITION, 0),
-        );
-    }
-    if n <= q {
+    if !are_positions(kinds.len(), p, q) {
         return finish(
             kinds,
             tasks,
