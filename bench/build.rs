@@ -11,10 +11,12 @@ use std::path::{Path, PathBuf};
 use std::process::Command;
 
 const SOURCE: &str = "src/handwritten.c";
+const INCLUDE: &str = "../include";
 
 fn main() {
     let out = PathBuf::from(env::var("OUT_DIR").expect("OUT_DIR"));
     println!("cargo:rerun-if-changed={SOURCE}");
+    println!("cargo:rerun-if-changed={INCLUDE}/racejudge.h");
     println!("cargo:rerun-if-env-changed=RACEJUDGE_LIB");
     println!("cargo:rerun-if-env-changed=CC");
     println!("cargo:rustc-link-search=native={}", out.display());
@@ -42,9 +44,9 @@ fn main() {
 fn compile(out: &Path, name: &str, words: &[&str]) {
     let object = out.join(format!("{name}.o"));
     run(Command::new(compiler())
-        .args(["-O3", "-std=c11", "-Wall", "-Wextra", "-fPIC", "-ffunction-sections"])
+        .args(["-O3", "-std=c11", "-Wall", "-Wextra", "-Werror", "-fPIC", "-ffunction-sections"])
         .args(words)
-        .args(["-c", SOURCE, "-o"])
+        .args(["-I", INCLUDE, "-c", SOURCE, "-o"])
         .arg(&object));
     let library = out.join(format!("lib{name}.a"));
     let _ = std::fs::remove_file(&library);

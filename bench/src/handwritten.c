@@ -2,36 +2,36 @@
  * the proved judge. Its answers and buffers are exactly the same.
  *
  * Two stacks (halted tasks left of the running one; the running task over its paused ancestors), a
- * union-find forest by size with no path compression, a flag at each top (the group is in left), and
- * for each location two tasks: one of the leftmost group with an access (what a write conflicts
+ * union-find forest by size with no path compression, a flag at each top (the group is in left),
+ * and for each location two tasks: one of the leftmost group with an access (what a write conflicts
  * with) and one of the leftmost group with a write (what a read conflicts with).
  *
- * What is tuned: the two cells of a location lie side by side and are read and written as one word;
- * the flag sits in the top's own link cell; the stacks hold each task's top, so that halt and join
- * search nothing; accesses have a loop of their own; the orders are written in one pass with no
- * branch; everything is cleared once at the end.
+ * What is tuned: the two cells of a location lie side by side, are read and written as one word,
+ * and name the top of the accessing task's group, so that the next search is short; the flag sits
+ * in the top's own link cell; the stacks hold each task's top, so that halt and join search
+ * nothing; accesses have a loop of their own; the orders are written in one pass with no branch;
+ * everything is cleared once at the end.
  *
- * Compiled more than once, under the names NAME_judge, NAME_ordering, NAME_floor. */
+ * Compiled more than once, under the names NAME_judge, NAME_ordering, NAME_floor. With the name
+ * racejudge the compiler holds the calls to the prototypes of racejudge.h. */
 
 #include <stddef.h>
 #include <stdint.h>
 #include <string.h>
 
+#include "racejudge.h"
+
 #define GLUED(name, call) name##_##call
 #define EXPORTED(name, call) GLUED(name, call)
 
-/* A location's cells name the top of the accessing task's group, so that the next search ends at
- * once; with -DNAME_RUNNING they name the accessing task itself. */
-#ifdef NAME_RUNNING
-#define NAMED(task, top) (task)
-#else
-#define NAMED(task, top) (top)
-#endif
-
-enum { READ, WRITE, FORK, JOIN, HALT };
-enum { CLEAN, RACE, REFUSED };
-enum { NO, YES };
-enum { TASKS = 1024, MAX_EVENTS = 32768, WORKSPACE = 12288 };
+enum {
+    READ = RACEJUDGE_READ,
+    WRITE = RACEJUDGE_WRITE,
+    FORK = RACEJUDGE_FORK,
+    JOIN = RACEJUDGE_JOIN,
+    HALT = RACEJUDGE_HALT
+};
+enum { TASKS = 1024, LOCATIONS = 1024, WORKSPACE = RACEJUDGE_WORKSPACE };
 
 /* Tables in the workspace. */
 enum {
@@ -50,6 +50,13 @@ enum { IN_LEFT = 0xffff };
 #define LIKELY(c) __builtin_expect(!!(c), 1)
 #define UNLIKELY(c) __builtin_expect(!!(c), 0)
 
+typedef struct {
+    const uint8_t *kinds;
+    const uint16_t *tasks, *operands;
+    size_t n;
+} Trace;
+
+/* The depths of the two stacks. */
 typedef struct {
     uint32_t active, left;
 } Line;
@@ -88,46 +95,78 @@ static inline Line start(uint16_t *ws)
     return (Line){1, 0};
 }
 
-/* Fork, join or halt by the running task; the row that turns it back, or 0. */
-static inline uint32_t move_line(uint16_t *ws, Line *line, uint32_t kind, uint32_t operand)
+/* Fork, join and halt by the running task: the row that turns it back, or 0. */
+
+static inline uint32_t fork_task(uint16_t *ws, Line *line, uint32_t child)
 {
+    if (child >= TASKS)
+        return 9;
+    if (ws[SIZE + child] != 0)
+        return 10;
+    ws[SIZE + child] = 1;
+    ws[LINK + child] = 0;
+    ws[ACTIVE + line->active] = child;
+    ws[ACTIVE_TOP + line->active] = child;
+    line->active++;
+    return 0;
+}
+
+static inline uint32_t join_task(uint16_t *ws, Line *line, uint32_t joined)
+{
+    if (line->left == 0 || ws[LEFT + line->left - 1] != joined)
+        return 11;
     uint32_t here = line->active - 1;
-    if (kind == FORK) {
-        if (operand >= TASKS)
-            return 9;
-        if (ws[SIZE + operand] != 0)
-            return 10;
-        ws[SIZE + operand] = 1;
-        ws[LINK + operand] = 0;
-        ws[ACTIVE + here + 1] = operand;
-        ws[ACTIVE_TOP + here + 1] = operand;
-        line->active++;
-    } else if (kind == JOIN) {
-        if (line->left == 0 || ws[LEFT + line->left - 1] != operand)
-            return 11;
-        uint32_t mine = ws[ACTIVE_TOP + here];
-        uint32_t other = ws[LEFT_TOP + --line->left];
-        uint32_t sum = ws[SIZE + mine] + ws[SIZE + other];
-        if (ws[SIZE + mine] < ws[SIZE + other]) {
-            ws[LINK + mine] = other + 1;
-            ws[LINK + other] = 0;
-            ws[SIZE + other] = sum;
-            ws[ACTIVE_TOP + here] = other;
-        } else {
-            ws[LINK + other] = mine + 1;
-            ws[SIZE + mine] = sum;
-        }
+    uint32_t mine = ws[ACTIVE_TOP + here];
+    uint32_t other = ws[LEFT_TOP + --line->left];
+    uint32_t sum = ws[SIZE + mine] + ws[SIZE + other];
+    if (ws[SIZE + mine] < ws[SIZE + other]) {
+        ws[LINK + mine] = other + 1;
+        ws[LINK + other] = 0;
+        ws[SIZE + other] = sum;
+        ws[ACTIVE_TOP + here] = other;
     } else {
-        if (operand != 0)
-            return 12;
-        uint32_t top = ws[ACTIVE_TOP + here];
-        ws[LINK + top] = IN_LEFT;
-        ws[LEFT + line->left] = ws[ACTIVE + here];
-        ws[LEFT_TOP + line->left] = top;
-        line->left++;
-        line->active--;
+        ws[LINK + other] = mine + 1;
+        ws[SIZE + mine] = sum;
     }
     return 0;
+}
+
+static inline uint32_t halt_task(uint16_t *ws, Line *line, uint32_t operand)
+{
+    if (operand != 0)
+        return 12;
+    uint32_t here = --line->active;
+    uint32_t top = ws[ACTIVE_TOP + here];
+    ws[LINK + top] = IN_LEFT;
+    ws[LEFT + line->left] = ws[ACTIVE + here];
+    ws[LEFT_TOP + line->left] = top;
+    line->left++;
+    return 0;
+}
+
+static inline uint32_t move_line(uint16_t *ws, Line *line, uint32_t kind, uint32_t operand)
+{
+    if (kind == FORK)
+        return fork_task(ws, line, operand);
+    if (kind == JOIN)
+        return join_task(ws, line, operand);
+    return halt_task(ws, line, operand);
+}
+
+/* Holds event i to the rules, x being the running task, and moves the line: the row that turns it
+ * back, or 0. */
+static inline uint32_t step(Trace trace, uint16_t *ws, Line *line, uint32_t x, size_t i)
+{
+    uint32_t kind = trace.kinds[i], operand = trace.operands[i];
+    if (UNLIKELY(kind > HALT))
+        return 5;
+    if (UNLIKELY(line->active == 0))
+        return 6;
+    if (UNLIKELY(trace.tasks[i] != x))
+        return 7;
+    if (LIKELY(kind > WRITE))
+        return move_line(ws, line, kind, operand);
+    return operand < LOCATIONS ? 0 : 8;
 }
 
 /* For each number used, whether its group is not in left. */
@@ -142,72 +181,75 @@ static void survey(const uint16_t *ws, uint16_t *live)
 }
 
 /* The line again up to s, which holds no failure: accesses are passed over. */
-static void rerun(const uint8_t *kinds, const uint16_t *operands, uint16_t *ws, size_t s)
+static void rerun(Trace trace, uint16_t *ws, size_t s)
 {
     Line line = start(ws);
     for (size_t i = 0; i < s; i++)
-        if (kinds[i] > WRITE)
-            move_line(ws, &line, kinds[i], operands[i]);
+        if (trace.kinds[i] > WRITE)
+            move_line(ws, &line, trace.kinds[i], trace.operands[i]);
 }
 
 /* The smallest position that t races with. */
-static size_t partner(const uint8_t *kinds, const uint16_t *tasks, const uint16_t *operands,
-                      const uint16_t *live, size_t t)
+static size_t partner(Trace trace, const uint16_t *live, size_t t)
 {
     size_t s = 0;
-    while (operands[s] != operands[t] || kinds[s] > WRITE || (kinds[s] | kinds[t]) == READ ||
-           live[tasks[s]])
+    while (trace.operands[s] != trace.operands[t] || trace.kinds[s] > WRITE ||
+           (trace.kinds[s] | trace.kinds[t]) == READ || live[trace.tasks[s]])
         s++;
     return s;
+}
+
+/* Where the next position goes that is in D, and the next that is not. */
+typedef struct {
+    size_t in_d, others;
+} Ends;
+
+/* Writes p to both ends, of which one moves on. */
+static inline Ends place(uint16_t *first, uint16_t *second, Ends at, size_t p, uint32_t reaches)
+{
+    first[at.in_d] = p;
+    second[at.others] = p;
+    return (Ends){at.in_d + reaches, at.others + (reaches ^ 1)};
 }
 
 /* Both order buffers. The first takes D, the second for a while the others. */
 static void orders(const uint16_t *tasks, const uint16_t *live_t, const uint16_t *live_s,
                    uint16_t *restrict first, uint16_t *restrict second, size_t s, size_t t)
 {
-    size_t in_d = 0, others = 0;
-    for (size_t p = 0; p < s; p++) {
-        uint32_t reaches = live_t[tasks[p]] | live_s[tasks[p]];
-        first[in_d] = p;
-        second[others] = p;
-        in_d += reaches;
-        others += reaches ^ 1;
-    }
-    for (size_t p = s + 1; p < t; p++) {
-        uint32_t reaches = live_t[tasks[p]];
-        first[in_d] = p;
-        second[others] = p;
-        in_d += reaches;
-        others += reaches ^ 1;
-    }
-    first[in_d] = s;
-    first[in_d + 1] = t;
-    memcpy(first + in_d + 2, second, others * sizeof *second);
+    Ends at = {0, 0};
+    for (size_t p = 0; p < s; p++)
+        at = place(first, second, at, p, live_t[tasks[p]] | live_s[tasks[p]]);
+    for (size_t p = s + 1; p < t; p++)
+        at = place(first, second, at, p, live_t[tasks[p]]);
+    first[at.in_d] = s;
+    first[at.in_d + 1] = t;
+    memcpy(first + at.in_d + 2, second, at.others * sizeof *second);
     memcpy(second, first, (t + 1) * sizeof *first);
-    second[in_d] = t;
-    second[in_d + 1] = s;
+    second[at.in_d] = t;
+    second[at.in_d + 1] = s;
 }
 
-static size_t report(const uint8_t *kinds, const uint16_t *tasks, const uint16_t *operands,
-                     uint16_t *ws, uint16_t *first, uint16_t *second, size_t t)
+/* Writes the orders for a race at t; its partner. Apart, so that the loop over the events has the
+ * registers for itself. */
+__attribute__((noinline)) static size_t report(Trace trace, uint16_t *ws, uint16_t *first,
+                                               uint16_t *second, size_t t)
 {
     survey(ws, ws + LIVE_T);
-    size_t s = partner(kinds, tasks, operands, ws + LIVE_T, t);
-    rerun(kinds, operands, ws, s);
+    size_t s = partner(trace, ws + LIVE_T, t);
+    rerun(trace, ws, s);
     survey(ws, ws + LIVE_S);
-    orders(tasks, ws + LIVE_T, ws + LIVE_S, first, second, s, t);
+    orders(trace.tasks, ws + LIVE_T, ws + LIVE_S, first, second, s, t);
     return s;
 }
 
-/* The position of the first event from i on that is no passed access of task x. The cells of a passed
- * access name `top`, a task of x's group. */
-static inline size_t accesses(const uint8_t *kinds, const uint16_t *tasks, const uint16_t *operands,
-                              uint16_t *ws, size_t n, uint32_t x, uint32_t top, size_t i)
+/* The position of the first event from i on that is no passed access of task x. The cells of a
+ * passed access name `top`, the top of x's group. */
+static inline size_t accesses(Trace trace, uint16_t *ws, uint32_t x, uint32_t top, size_t i)
 {
     uint32_t top_twice = top | top << 16;
-    for (; i < n; i++) {
-        uint32_t kind = kinds[i], l = operands[i];
-        if (UNLIKELY((kind > WRITE) | (tasks[i] != x) | (l >= TASKS)))
+    for (; i < trace.n; i++) {
+        uint32_t kind = trace.kinds[i], l = trace.operands[i];
+        if (UNLIKELY((kind > WRITE) | (trace.tasks[i] != x) | (l >= LOCATIONS)))
             return i;
         uint32_t both = pair_at(ws, l);
         if (both == top_twice)
@@ -234,11 +276,11 @@ static inline size_t accesses(const uint8_t *kinds, const uint16_t *tasks, const
 }
 
 /* Rows 1 to 3, or 0. */
-static uint64_t whole_trace_row(size_t n, size_t tasks_len, size_t operands_len, size_t ws_len)
+static uint64_t size_row(size_t n, size_t tasks_len, size_t operands_len, size_t ws_len)
 {
     if (tasks_len != n || operands_len != n)
         return 1;
-    if (n > MAX_EVENTS)
+    if (n > RACEJUDGE_MAX_EVENTS)
         return 2;
     if (ws_len < WORKSPACE + n)
         return 3;
@@ -252,108 +294,86 @@ static inline uint64_t say(uint64_t *values, uint64_t code, uint64_t a, uint64_t
     return code;
 }
 
+/* All events, up to the first that breaks a rule or races. */
+static inline uint64_t judge_events(Trace trace, uint16_t *ws, uint16_t *first, uint16_t *second,
+                                    uint64_t *values)
+{
+    memset(ws + PAIR, 0, 2 * LOCATIONS * sizeof *ws);
+    Line line = start(ws);
+    for (size_t i = 0; i < trace.n; i++) {
+        uint32_t x = 0;
+        if (LIKELY(line.active != 0)) {
+            x = ws[ACTIVE + line.active - 1];
+            i = accesses(trace, ws, x, ws[ACTIVE_TOP + line.active - 1], i);
+            if (i == trace.n)
+                break;
+            /* Event i is read again: else the loop above keeps the outcome of each of its tests. */
+            __asm__("" : "+r"(i));
+        }
+        uint32_t row = step(trace, ws, &line, x, i);
+        if (UNLIKELY(row != 0))
+            return say(values, RACEJUDGE_REFUSED, row, i);
+        if (UNLIKELY(trace.kinds[i] <= WRITE))
+            return say(values, RACEJUDGE_RACE, report(trace, ws, first, second, i), i);
+    }
+    return say(values, RACEJUDGE_CLEAN, 0, 0);
+}
+
 uint64_t EXPORTED(NAME, judge)(const uint8_t *kinds, size_t n, const uint16_t *tasks,
                                size_t tasks_len, const uint16_t *operands, size_t operands_len,
                                uint16_t *ws, size_t ws_len, uint16_t *first, size_t first_len,
                                uint16_t *second, size_t second_len, uint64_t values[2])
 {
-    uint64_t row = whole_trace_row(n, tasks_len, operands_len, ws_len);
+    uint64_t row = size_row(n, tasks_len, operands_len, ws_len);
     if (row == 0 && (first_len < n || second_len < n))
         row = 4;
     if (row != 0)
-        return say(values, REFUSED, row, 0);
-    size_t clear = (WORKSPACE + n) * sizeof *ws;
-    if (n == 0) {
-        memset(ws, 0, clear);
-        return say(values, CLEAN, 0, 0);
-    }
-    memset(ws + PAIR, 0, 2 * TASKS * sizeof *ws);
-    Line line = start(ws);
-    uint64_t said = CLEAN, a = 0, b = 0;
-    for (size_t i = 0; i < n; i++) {
-        uint32_t x = 0;
-        if (LIKELY(line.active != 0)) {
-            x = ws[ACTIVE + line.active - 1];
-            uint32_t top = NAMED(x, ws[ACTIVE_TOP + line.active - 1]);
-            i = accesses(kinds, tasks, operands, ws, n, x, top, i);
-            if (i == n)
-                break;
-        }
-        uint32_t kind = kinds[i];
-        uint32_t number = 0;
-        if (UNLIKELY(kind > HALT))
-            number = 5;
-        else if (UNLIKELY(line.active == 0))
-            number = 6;
-        else if (UNLIKELY(tasks[i] != x))
-            number = 7;
-        else if (LIKELY(kind > WRITE))
-            number = move_line(ws, &line, kind, operands[i]);
-        else if (operands[i] >= TASKS)
-            number = 8;
-        else {
-            said = RACE;
-            a = report(kinds, tasks, operands, ws, first, second, i);
-            b = i;
-            break;
-        }
-        if (UNLIKELY(number != 0)) {
-            said = REFUSED;
-            a = number;
-            b = i;
-            break;
-        }
-    }
-    memset(ws, 0, clear);
-    return say(values, said, a, b);
+        return say(values, RACEJUDGE_REFUSED, row, 0);
+    uint64_t said = say(values, RACEJUDGE_CLEAN, 0, 0);
+    if (n != 0)
+        said = judge_events((Trace){kinds, tasks, operands, n}, ws, first, second, values);
+    memset(ws, 0, (WORKSPACE + n) * sizeof *ws);
+    return said;
 }
 
 /* The rules alone from *at on, to `end` or the first refusal, whose row is the result. */
-static inline uint32_t walk(const uint8_t *kinds, const uint16_t *tasks, const uint16_t *operands,
-                            uint16_t *ws, Line *line, size_t *at, size_t end)
+static inline uint32_t walk(Trace trace, uint16_t *ws, Line *line, size_t *at, size_t end)
 {
     size_t i = *at;
-    uint32_t number = 0;
+    uint32_t row = 0;
     for (; i < end; i++) {
         uint32_t x = 0;
         if (LIKELY(line->active != 0)) {
             x = ws[ACTIVE + line->active - 1];
-            while (i < end && LIKELY((kinds[i] <= WRITE) & (tasks[i] == x) & (operands[i] < TASKS)))
+            while (i < end && LIKELY((trace.kinds[i] <= WRITE) & (trace.tasks[i] == x) &
+                                     (trace.operands[i] < LOCATIONS)))
                 i++;
             if (i == end)
                 break;
         }
-        uint32_t kind = kinds[i];
-        if (UNLIKELY(kind > HALT))
-            number = 5;
-        else if (UNLIKELY(line->active == 0))
-            number = 6;
-        else if (UNLIKELY(tasks[i] != x))
-            number = 7;
-        else if (LIKELY(kind > WRITE))
-            number = move_line(ws, line, kind, operands[i]);
-        else
-            number = 8;
-        if (UNLIKELY(number != 0))
+        row = step(trace, ws, line, x, i);
+        if (UNLIKELY(row != 0))
             break;
     }
     *at = i;
-    return number;
+    return row;
 }
 
 uint64_t EXPORTED(NAME, ordering)(const uint8_t *kinds, size_t n, const uint16_t *tasks,
                                   size_t tasks_len, const uint16_t *operands, size_t operands_len,
-                                  uint16_t *ws, size_t ws_len, size_t p, size_t q, uint64_t values[2])
+                                  uint16_t *ws, size_t ws_len, size_t p, size_t q,
+                                  uint64_t values[2])
 {
-    uint64_t row = whole_trace_row(n, tasks_len, operands_len, ws_len);
+    uint64_t row = size_row(n, tasks_len, operands_len, ws_len);
     if (row != 0)
-        return say(values, REFUSED, row, 0);
+        return say(values, RACEJUDGE_REFUSED, row, 0);
+    const Trace trace = {kinds, tasks, operands, n};
     Line line = start(ws);
     size_t at = 0;
     int yes = p == q;
     if (p < q && q < n) {
         /* A join is tested after its merge, any other event before its step. */
-        row = walk(kinds, tasks, operands, ws, &line, &at, kinds[q] == JOIN ? q + 1 : q);
+        row = walk(trace, ws, &line, &at, kinds[q] == JOIN ? q + 1 : q);
         if (row == 0) {
             int in_left;
             find(ws, tasks[p], &in_left);
@@ -361,20 +381,20 @@ uint64_t EXPORTED(NAME, ordering)(const uint8_t *kinds, size_t n, const uint16_t
         }
     }
     if (row == 0)
-        row = walk(kinds, tasks, operands, ws, &line, &at, n);
+        row = walk(trace, ws, &line, &at, n);
     if (row == 0 && (p >= n || q >= n)) {
         row = 13;
         at = 0;
     }
     memset(ws, 0, (WORKSPACE + n) * sizeof *ws);
     if (row != 0)
-        return say(values, REFUSED, row, at);
-    return say(values, yes ? YES : NO, 0, 0);
+        return say(values, RACEJUDGE_REFUSED, row, at);
+    return say(values, yes ? RACEJUDGE_YES : RACEJUDGE_NO, 0, 0);
 }
 
-/* The floor: reads every entry of the trace once and clears the workspace once. */
-uint64_t EXPORTED(NAME, floor)(const uint8_t *kinds, const uint16_t *tasks, const uint16_t *operands,
-                               size_t n, uint16_t *ws)
+/* The floor: reads every entry of a trace once and clears its workspace once. */
+uint64_t EXPORTED(NAME, floor)(const uint8_t *kinds, const uint16_t *tasks,
+                               const uint16_t *operands, size_t n, uint16_t *ws)
 {
     uint32_t sum = 0;
     for (size_t i = 0; i < n; i++)
