@@ -1,10 +1,10 @@
 //! A FastTrack detector: vector clocks for the tasks, epochs for the last write and, where they
 //! are enough, for the last read of each location; a vector of reads where several unordered tasks
 //! have read. It answers whether and where the first race is, and does less than the judge: no
-//! line rules, no partner, no orders. The trace must keep the rules.
+//! line rules, no partner, no orders.
 //!
 //! Tuned: 16-bit clocks, vectors only as long as the highest task number met, all memory kept
-//! between calls, no index checked.
+//! between calls, no index checked for an access.
 
 use crate::trace::*;
 
@@ -41,22 +41,23 @@ impl Default for FastTrack {
 
 impl FastTrack {
     /// The position of the first access that races with an earlier one.
-    pub fn first_race(&mut self, trace: &Trace) -> Option<usize> {
+    ///
+    /// # Safety
+    ///
+    /// The trace keeps the rules, so that its tasks and operands are below 1,024.
+    pub unsafe fn first_race(&mut self, trace: &Trace) -> Option<usize> {
         self.reset();
         let n = trace.len();
         let (kinds, tasks, operands) = (&trace.kinds[..n], &trace.tasks[..n], &trace.operands[..n]);
         for i in 0..n {
             let (x, o) = (tasks[i] as usize, operands[i] as usize);
             debug_assert!(x < TASKS && o < TASKS);
-            // The trace keeps the rules, so x and o are below 1,024.
-            let passed = unsafe {
-                match kinds[i] {
-                    READ => self.read(x, o),
-                    WRITE => self.write(x, o),
-                    FORK => self.fork(x, o),
-                    JOIN => self.join(x, o),
-                    _ => true,
-                }
+            let passed = match kinds[i] {
+                READ => self.access::<READ>(x, o),
+                WRITE => self.access::<WRITE>(x, o),
+                FORK => self.fork(x, o),
+                JOIN => self.join(x, o),
+                _ => true,
             };
             if !passed {
                 return Some(i);
@@ -95,16 +96,27 @@ impl FastTrack {
         epoch >> 16 <= self.clock(x, (epoch & 0xffff) as usize)
     }
 
+    /// Whether a read or a write of location l by task x passes. One at the epoch of the last of
+    /// its kind does; else both are held to the last write.
     #[inline(always)]
-    unsafe fn read(&mut self, x: usize, l: usize) -> bool {
+    unsafe fn access<const KIND: u8>(&mut self, x: usize, l: usize) -> bool {
         let now = self.now(x);
         let Location { write, read } = *self.locations.get_unchecked(l);
-        if read == now {
+        if now == if KIND == READ { read } else { write } {
             return true;
         }
         if !self.before(write, x) {
             return false;
         }
+        if KIND == READ {
+            self.note_read(x, l, read, now);
+            return true;
+        }
+        self.note_write(x, l, read, now)
+    }
+
+    #[inline(always)]
+    unsafe fn note_read(&mut self, x: usize, l: usize, read: Epoch, now: Epoch) {
         if read & SHARED != 0 {
             let row = (read & 0xffff) as usize;
             *self.reads.get_unchecked_mut(row * TASKS + x) = (now >> 16) as i16;
@@ -113,7 +125,6 @@ impl FastTrack {
         } else {
             self.share(x, l, read);
         }
-        true
     }
 
     #[cold]
@@ -126,16 +137,9 @@ impl FastTrack {
         self.locations[l].read = SHARED | row as u32;
     }
 
+    /// A write is held to the reads as well.
     #[inline(always)]
-    unsafe fn write(&mut self, x: usize, l: usize) -> bool {
-        let now = self.now(x);
-        let Location { write, read } = *self.locations.get_unchecked(l);
-        if write == now {
-            return true;
-        }
-        if !self.before(write, x) {
-            return false;
-        }
+    unsafe fn note_write(&mut self, x: usize, l: usize, read: Epoch, now: Epoch) -> bool {
         if read & SHARED != 0 {
             if !self.all_before((read & 0xffff) as usize, x) {
                 return false;

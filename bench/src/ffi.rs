@@ -1,86 +1,39 @@
 //! The C interfaces that are linked. This module alone knows the form in which an answer comes
-//! back; all others see `Answer` and `Ordering`.
+//! back: all others compare a `Told` with that of the answer that they want.
 
-use crate::trace::{Answer, Ordering, Trace};
+use crate::trace::{Answer, Ordering, Trace, WORKSPACE};
 
 /// What is linked as the judge: the archive, or the stand-in.
 pub const LINKED: &str = env!("RACEJUDGE_NAME");
 
-type Values = [u64; 2];
-
-/// kinds, tasks, operands, workspace, first, second, each a pointer and a length; the two values.
-/// Returns the code.
-type JudgeFn = unsafe extern "C" fn(
-    *const u8,
-    usize,
-    *const u16,
-    usize,
-    *const u16,
-    usize,
-    *mut u16,
-    usize,
-    *mut u16,
-    usize,
-    *mut u16,
-    usize,
-    *mut Values,
-) -> u64;
-
-/// kinds, tasks, operands, workspace, each a pointer and a length; p, q; the two values. Returns
-/// the code.
-type OrderingFn = unsafe extern "C" fn(
-    *const u8,
-    usize,
-    *const u16,
-    usize,
-    *const u16,
-    usize,
-    *mut u16,
-    usize,
-    usize,
-    usize,
-    *mut Values,
-) -> u64;
-
-/// Declares the two calls of one linked judge.
-macro_rules! linked {
-    ($judge:ident, $ordering:ident) => {
+/// Declares one call under its name in each archive, and its type. All return the code.
+macro_rules! declare {
+    ($type:ident, [$($name:ident),*], $parameters:tt) => {
+        type $type = unsafe extern "C" fn $parameters -> u64;
         extern "C" {
-            fn $judge(
-                kinds: *const u8,
-                kinds_len: usize,
-                tasks: *const u16,
-                tasks_len: usize,
-                operands: *const u16,
-                operands_len: usize,
-                ws: *mut u16,
-                ws_len: usize,
-                first: *mut u16,
-                first_len: usize,
-                second: *mut u16,
-                second_len: usize,
-                values: *mut Values,
-            ) -> u64;
-            fn $ordering(
-                kinds: *const u8,
-                kinds_len: usize,
-                tasks: *const u16,
-                tasks_len: usize,
-                operands: *const u16,
-                operands_len: usize,
-                ws: *mut u16,
-                ws_len: usize,
-                p: usize,
-                q: usize,
-                values: *mut Values,
-            ) -> u64;
+            $(fn $name $parameters -> u64;)*
         }
     };
 }
 
-linked!(racejudge_judge, racejudge_ordering);
-linked!(hand_judge, hand_ordering);
-linked!(aligned_judge, aligned_ordering);
+declare!(JudgeCall, [racejudge_judge, hand_judge, aligned_judge], (
+    kinds: *const u8, kinds_len: usize,
+    tasks: *const u16, tasks_len: usize,
+    operands: *const u16, operands_len: usize,
+    workspace: *mut u16, workspace_len: usize,
+    first: *mut u16, first_len: usize,
+    second: *mut u16, second_len: usize,
+    values: *mut [u64; 2],
+));
+
+declare!(OrderingCall, [racejudge_ordering, hand_ordering, aligned_ordering], (
+    kinds: *const u8, kinds_len: usize,
+    tasks: *const u16, tasks_len: usize,
+    operands: *const u16, operands_len: usize,
+    workspace: *mut u16, workspace_len: usize,
+    p: usize, q: usize,
+    values: *mut [u64; 2],
+));
 
 extern "C" {
     fn hand_floor(
@@ -88,98 +41,108 @@ extern "C" {
         tasks: *const u16,
         operands: *const u16,
         n: usize,
-        ws: *mut u16,
+        workspace: *mut u16,
     ) -> u64;
 }
 
-/// One linked judge: the proved one (or its stand-in), or a build of the hand-written one.
-pub struct Judge {
-    pub name: &'static str,
-    judge: JudgeFn,
-    ordering: OrderingFn,
+/// Hands over the trace and the lent buffers, each as a pointer and a length, then the rest. Sound
+/// for any contents and lengths: the interface asks nothing of them.
+macro_rules! call {
+    ($function:expr, $trace:ident, [$($buffer:ident),*], $($rest:expr),*) => {
+        unsafe {
+            $function(
+                $trace.kinds.as_ptr(),
+                $trace.kinds.len(),
+                $trace.tasks.as_ptr(),
+                $trace.tasks.len(),
+                $trace.operands.as_ptr(),
+                $trace.operands.len(),
+                $($buffer.as_mut_ptr(), $buffer.len(),)*
+                $($rest,)*
+            )
+        }
+    };
 }
 
+/// What a call tells: the code that it returns and the two values that it stores.
+#[derive(Clone, Copy, Debug, PartialEq, Eq)]
+pub struct Told {
+    code: u64,
+    values: [u64; 2],
+}
+
+impl Told {
+    fn new(code: u64, a: usize, b: usize) -> Self {
+        Told { code, values: [a as u64, b as u64] }
+    }
+}
+
+impl From<Answer> for Told {
+    fn from(answer: Answer) -> Self {
+        match answer {
+            Answer::Clean => Told::new(0, 0, 0),
+            Answer::Race(s, t) => Told::new(1, s, t),
+            Answer::Refused(number, position) => Told::new(2, number, position),
+        }
+    }
+}
+
+impl From<Ordering> for Told {
+    fn from(answer: Ordering) -> Self {
+        match answer {
+            Ordering::No => Told::new(0, 0, 0),
+            Ordering::Yes => Told::new(1, 0, 0),
+            Ordering::Refused(number, position) => Told::new(2, number, position),
+        }
+    }
+}
+
+/// One linked judge.
+pub struct Judge {
+    pub name: &'static str,
+    judge: JudgeCall,
+    ordering: OrderingCall,
+}
+
+/// The proved judge, or what stands in for it.
 pub const PROVED: Judge =
     Judge { name: "the library", judge: racejudge_judge, ordering: racejudge_ordering };
 
 pub const HAND: Judge =
     Judge { name: "hand-written C", judge: hand_judge, ordering: hand_ordering };
 
+/// The same source, with no branch across a 32-byte bound.
 pub const ALIGNED: Judge =
     Judge { name: "hand-written C, aligned", judge: aligned_judge, ordering: aligned_ordering };
+
+/// No call stores this, so that a call that stores nothing shows.
+const NOTHING: [u64; 2] = [u64::MAX; 2];
 
 impl Judge {
     pub fn judge(
         &self,
         trace: &Trace,
-        ws: &mut [u16],
+        workspace: &mut [u16],
         first: &mut [u16],
         second: &mut [u16],
-    ) -> Answer {
-        let mut values: Values = [u64::MAX; 2];
-        let code = unsafe {
-            (self.judge)(
-                trace.kinds.as_ptr(),
-                trace.kinds.len(),
-                trace.tasks.as_ptr(),
-                trace.tasks.len(),
-                trace.operands.as_ptr(),
-                trace.operands.len(),
-                ws.as_mut_ptr(),
-                ws.len(),
-                first.as_mut_ptr(),
-                first.len(),
-                second.as_mut_ptr(),
-                second.len(),
-                &mut values,
-            )
-        };
-        let (a, b) = (values[0] as usize, values[1] as usize);
-        match (code, a, b) {
-            (0, 0, 0) => Answer::Clean,
-            (1, s, t) => Answer::Race(s, t),
-            (2, number, position) => Answer::Refused(number, position),
-            _ => panic!("{} said {code} {values:?}", self.name),
-        }
+    ) -> Told {
+        let mut values = NOTHING;
+        let code = call!((self.judge), trace, [workspace, first, second], &mut values);
+        Told { code, values }
     }
 
-    pub fn ordering(&self, trace: &Trace, ws: &mut [u16], p: usize, q: usize) -> Ordering {
-        let mut values: Values = [u64::MAX; 2];
-        let code = unsafe {
-            (self.ordering)(
-                trace.kinds.as_ptr(),
-                trace.kinds.len(),
-                trace.tasks.as_ptr(),
-                trace.tasks.len(),
-                trace.operands.as_ptr(),
-                trace.operands.len(),
-                ws.as_mut_ptr(),
-                ws.len(),
-                p,
-                q,
-                &mut values,
-            )
-        };
-        let (a, b) = (values[0] as usize, values[1] as usize);
-        match (code, a, b) {
-            (0, 0, 0) => Ordering::No,
-            (1, 0, 0) => Ordering::Yes,
-            (2, number, position) => Ordering::Refused(number, position),
-            _ => panic!("{} said {code} {values:?}", self.name),
-        }
+    pub fn ordering(&self, trace: &Trace, workspace: &mut [u16], p: usize, q: usize) -> Told {
+        let mut values = NOTHING;
+        let code = call!((self.ordering), trace, [workspace], p, q, &mut values);
+        Told { code, values }
     }
 }
 
-/// The least that any judge does: reads the trace once, clears the workspace once.
-pub fn floor(trace: &Trace, ws: &mut [u16]) -> u64 {
-    let n = trace.len();
-    unsafe {
-        hand_floor(
-            trace.kinds.as_ptr(),
-            trace.tasks.as_ptr(),
-            trace.operands.as_ptr(),
-            n,
-            ws.as_mut_ptr(),
-        )
-    }
+/// The least that any judge does: reads the trace once, clears its workspace once.
+pub fn floor(trace: &Trace, workspace: &mut [u16]) -> u64 {
+    let Trace { kinds, tasks, operands } = trace;
+    let n = kinds.len();
+    assert!(tasks.len() == n && operands.len() == n && workspace.len() >= WORKSPACE + n);
+    let workspace = workspace.as_mut_ptr();
+    unsafe { hand_floor(kinds.as_ptr(), tasks.as_ptr(), operands.as_ptr(), n, workspace) }
 }

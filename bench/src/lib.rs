@@ -1,13 +1,17 @@
 //! Measures and tests the race judge from outside, over its static library.
 //!
 //! Reading order: `trace` (what goes in and comes out), `line` and `ancestors` (the slow judge,
-//! written from the scope paper alone), `text` (the text form), `ffi` (the library), `fasttrack`
-//! and `handwritten.c` (the peers), `rng`, `workloads` and `samples` (the traces).
+//! written from document 01 alone), `text` (the text form), `ffi` (the linked judges),
+//! `fasttrack` and `handwritten.c` (the peers), `rng`, `builder`, `workloads` and `samples` (the
+//! traces), `extent` (how near a trace comes to the limits), `program` (words and output).
 
 pub mod ancestors;
+pub mod builder;
+pub mod extent;
 pub mod fasttrack;
 pub mod ffi;
 pub mod line;
+pub mod program;
 pub mod rng;
 pub mod samples;
 pub mod text;

@@ -1,4 +1,4 @@
-//! The line of tasks and its rules, kept literally as the scope paper has them: one list from left
+//! The line of tasks and its rules, kept literally as document 01 has them: one list from left
 //! to right, and a stack of the running task over its paused ancestors.
 
 use crate::trace::*;

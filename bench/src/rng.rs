@@ -20,6 +20,7 @@ impl Rng {
         ((self.draw() as u128 * bound as u128) >> 64) as usize
     }
 
+    /// The same for a `bound` of at most 65,536.
     pub fn cell(&mut self, bound: usize) -> u16 {
         self.below(bound) as u16
     }

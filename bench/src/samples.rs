@@ -1,8 +1,8 @@
 //! Random traces for the test: some keep the rules, some are damaged, some are noise.
 
+use crate::builder::Builder;
 use crate::rng::Rng;
 use crate::trace::*;
-use crate::workloads::Builder;
 
 /// A trace of about n events that keeps the rules, with its own mix of kinds, few or many tasks and
 /// locations. `care` in 100 accesses that would race are left out.
@@ -14,16 +14,15 @@ pub fn valid(rng: &mut Rng, n: usize, care: usize) -> Trace {
     let accesses = rng.one_of(&[6, 20, 100]);
     let whole = forks + halts + joins + accesses;
     let writes = rng.below(101);
-    let mut forked = 0;
+    let reserve = b.numbers_left() - tasks;
     for _ in 0..2 * n {
-        if b.len() >= n {
+        if b.trace.len() >= n {
             break;
         }
         let pick = rng.below(whole);
         if pick < forks {
-            if forked < tasks && b.numbers_left() > 0 {
+            if b.numbers_left() > reserve {
                 b.fork();
-                forked += 1;
             }
         } else if pick < forks + halts {
             if b.depth() > 1 {
@@ -65,6 +64,7 @@ pub fn damage(rng: &mut Rng, trace: &Trace) -> Trace {
         return noise(rng, 1);
     }
     let p = rng.below(t.len());
+    let (task, ..) = t.event(p);
     match rng.below(12) {
         0 => t.kinds[p] = 5 + rng.cell(251) as u8,
         1 => t.tasks[p] = rng.cell(65_536),
@@ -72,55 +72,36 @@ pub fn damage(rng: &mut Rng, trace: &Trace) -> Trace {
         3 => t.operands[p] = 1_024 + rng.cell(64_512),
         4 => t.operands[p] = t.operands[rng.below(t.len())],
         5 => t.kinds[p] = rng.cell(5) as u8,
-        6 => take(&mut t, p),
-        7 => put(&mut t, p, trace.tasks[p], trace.kinds[p], trace.operands[p]),
-        8 => put(&mut t, p, trace.tasks[p], rng.cell(6) as u8, rng.cell(1_030)),
-        9 => {
-            // A halt with another operand, if there is a halt.
-            if let Some(at) = t.kinds[p..].iter().position(|&kind| kind == HALT) {
-                t.operands[p + at] = 1 + rng.cell(65_535);
-            }
-        }
-        10 => {
-            // A join of another number, if there is a join.
-            if let Some(at) = t.kinds[p..].iter().position(|&kind| kind == JOIN) {
-                t.operands[p + at] = rng.cell(1_030);
-            }
-        }
-        _ => {
-            // Every task halts, then something follows.
-            truncate(&mut t, p);
-            let mut active = vec![0];
-            for i in 0..p {
-                match t.kinds[i] {
-                    FORK => active.push(t.operands[i]),
-                    HALT => drop(active.pop()),
-                    _ => {}
-                }
-            }
-            while let Some(task) = active.pop() {
-                t.push(task, HALT, 0);
-            }
-            t.push(rng.cell(2), rng.cell(6) as u8, rng.cell(2));
-        }
+        6 => t.remove(p),
+        7 => t.insert(p, t.event(p)),
+        8 => t.insert(p, (task, rng.cell(6) as u8, rng.cell(1_030))),
+        9 => change_operand(&mut t, p, HALT, 1 + rng.cell(65_535)),
+        10 => change_operand(&mut t, p, JOIN, rng.cell(1_030)),
+        _ => follow_the_end(rng, &mut t, p),
     }
     t
 }
 
-fn take(t: &mut Trace, p: usize) {
-    t.kinds.remove(p);
-    t.tasks.remove(p);
-    t.operands.remove(p);
+/// Gives the first event from p on that has this kind another operand, if there is one.
+fn change_operand(t: &mut Trace, p: usize, kind: u8, operand: u16) {
+    if let Some(at) = t.kinds[p..].iter().position(|&other| other == kind) {
+        t.operands[p + at] = operand;
+    }
 }
 
-fn put(t: &mut Trace, p: usize, task: u16, kind: u8, operand: u16) {
-    t.kinds.insert(p, kind);
-    t.tasks.insert(p, task);
-    t.operands.insert(p, operand);
-}
-
-fn truncate(t: &mut Trace, n: usize) {
-    t.kinds.truncate(n);
-    t.tasks.truncate(n);
-    t.operands.truncate(n);
+/// From event p on every task halts, then something follows.
+fn follow_the_end(rng: &mut Rng, t: &mut Trace, p: usize) {
+    t.truncate(p);
+    let mut active = vec![0];
+    for i in 0..p {
+        match t.kinds[i] {
+            FORK => active.push(t.operands[i]),
+            HALT => _ = active.pop(),
+            _ => {}
+        }
+    }
+    while let Some(task) = active.pop() {
+        t.push(task, HALT, 0);
+    }
+    t.push(rng.cell(2), rng.cell(6) as u8, rng.cell(2));
 }

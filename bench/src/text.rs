@@ -1,9 +1,10 @@
-//! The text form, written from the scope paper: a subset of the STD lines, with implied halts.
+//! The text form, written from document 01: a subset of the STD lines, with implied halts.
 
+use crate::ancestors::Ancestors;
 use crate::trace::*;
 
 /// The most events that a text may make.
-pub const MAX_TEXT_EVENTS: usize = 2_048;
+const MAX_TEXT_EVENTS: usize = 2_048;
 
 /// What is left of the text.
 struct Rest<'a>(&'a [u8]);
@@ -28,7 +29,7 @@ impl Rest<'_> {
 
     /// `Ta|r(Vb)|c`, `Ta|w(Vb)|c`, `Ta|fork(Tb)|c` or `Ta|join(Tb)|c` and a line feed: task, kind
     /// and operand.
-    fn line(&mut self) -> Option<(u16, u8, u16)> {
+    fn line(&mut self) -> Option<Event> {
         self.word(b"T")?;
         let task = self.number()?;
         let forms: [(&[u8], u8); 4] =
@@ -43,7 +44,7 @@ impl Rest<'_> {
 }
 
 /// The whole text as a trace, or the refusal: 14 or 15 and the line's number from 0.
-pub fn translate(text: &[u8]) -> Result<Trace, Answer> {
+fn translate(text: &[u8]) -> Result<Trace, Answer> {
     let mut rest = Rest(text);
     let mut trace = Trace::default();
     let mut stack: Vec<u16> = vec![0];
@@ -70,7 +71,7 @@ pub fn translate(text: &[u8]) -> Result<Trace, Answer> {
 }
 
 /// The program's output for a trace of `events` events.
-pub fn output(said: Answer, events: usize, orders: Option<(Vec<u16>, Vec<u16>)>) -> String {
+fn output(said: Answer, events: usize, orders: Option<(Vec<u16>, Vec<u16>)>) -> String {
     let mut output = match said {
         Answer::Clean => format!("clean {events}\n"),
         Answer::Race(s, t) => format!("race {s} {t}\n"),
@@ -82,4 +83,16 @@ pub fn output(said: Answer, events: usize, orders: Option<(Vec<u16>, Vec<u16>)>)
         output.push('\n');
     }
     output
+}
+
+/// The whole output for a text, as the slow judge has it.
+pub fn answer(text: &[u8]) -> String {
+    match translate(text) {
+        Err(refused) => output(refused, 0, None),
+        Ok(trace) => {
+            let n = trace.len();
+            let outcome = Ancestors::default().judge(&trace, WORKSPACE + n, n, n);
+            output(outcome.said, n, outcome.orders)
+        }
+    }
 }

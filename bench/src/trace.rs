@@ -1,4 +1,4 @@
-//! A trace, the answers, and the limits of the scope paper.
+//! A trace, the answers, and the limits of document 01.
 
 use std::fmt;
 
@@ -15,6 +15,9 @@ pub const MAX_EVENTS: usize = 32_768;
 /// The workspace has at least this many cells more than the trace has events.
 pub const WORKSPACE: usize = 12_288;
 
+/// An event: task, kind and operand.
+pub type Event = (u16, u8, u16);
+
 /// Three slices; entry p of each makes event p. Their lengths may differ, which is refusal 1.
 #[derive(Clone, Default, PartialEq)]
 pub struct Trace {
@@ -24,7 +27,7 @@ pub struct Trace {
 }
 
 impl Trace {
-    pub fn of(events: &[(u16, u8, u16)]) -> Self {
+    pub fn of(events: &[Event]) -> Self {
         let mut trace = Trace::default();
         for &(task, kind, operand) in events {
             trace.push(task, kind, operand);
@@ -33,11 +36,32 @@ impl Trace {
     }
 
     pub fn push(&mut self, task: u16, kind: u8, operand: u16) {
-        self.kinds.push(kind);
-        self.tasks.push(task);
-        self.operands.push(operand);
+        self.insert(self.len(), (task, kind, operand));
     }
 
+    pub fn insert(&mut self, p: usize, (task, kind, operand): Event) {
+        self.kinds.insert(p, kind);
+        self.tasks.insert(p, task);
+        self.operands.insert(p, operand);
+    }
+
+    pub fn remove(&mut self, p: usize) {
+        self.kinds.remove(p);
+        self.tasks.remove(p);
+        self.operands.remove(p);
+    }
+
+    pub fn truncate(&mut self, n: usize) {
+        self.kinds.truncate(n);
+        self.tasks.truncate(n);
+        self.operands.truncate(n);
+    }
+
+    pub fn event(&self, p: usize) -> Event {
+        (self.tasks[p], self.kinds[p], self.operands[p])
+    }
+
+    /// The number of events, where the three lengths are the same.
     pub fn len(&self) -> usize {
         self.kinds.len()
     }
@@ -47,21 +71,18 @@ impl Trace {
     }
 }
 
-/// One event a line in the scope paper's notation, `0 fork 1`.
+/// The lengths, then one event a line in document 01's notation, `0 fork 1`.
 impl fmt::Display for Trace {
     fn fmt(&self, f: &mut fmt::Formatter) -> fmt::Result {
-        let lengths = (self.kinds.len(), self.tasks.len(), self.operands.len());
-        writeln!(f, "kinds {}, tasks {}, operands {}", lengths.0, lengths.1, lengths.2)?;
-        for p in 0..lengths.0.min(lengths.1).min(lengths.2) {
-            let kind = match self.kinds[p] {
-                READ => "read".to_string(),
-                WRITE => "write".to_string(),
-                FORK => "fork".to_string(),
-                JOIN => "join".to_string(),
-                HALT => "halt".to_string(),
-                other => format!("kind-{other}"),
-            };
-            writeln!(f, "{p}: {} {kind} {}", self.tasks[p], self.operands[p])?;
+        let lengths = [self.kinds.len(), self.tasks.len(), self.operands.len()];
+        writeln!(f, "kinds {}, tasks {}, operands {}", lengths[0], lengths[1], lengths[2])?;
+        for p in 0..lengths.into_iter().min().unwrap_or(0) {
+            let (task, kind, operand) = self.event(p);
+            let names = ["read", "write", "fork", "join", "halt"];
+            match names.get(kind as usize) {
+                Some(name) => writeln!(f, "{p}: {task} {name} {operand}")?,
+                None => writeln!(f, "{p}: {task} kind-{kind} {operand}")?,
+            }
         }
         Ok(())
     }
@@ -71,7 +92,9 @@ impl fmt::Display for Trace {
 #[derive(Clone, Copy, Debug, PartialEq, Eq)]
 pub enum Answer {
     Clean,
+    /// The positions s and t.
     Race(usize, usize),
+    /// The number and the position.
     Refused(usize, usize),
 }
 
@@ -80,5 +103,6 @@ pub enum Answer {
 pub enum Ordering {
     No,
     Yes,
+    /// The number and the position.
     Refused(usize, usize),
 }

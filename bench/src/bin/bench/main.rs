@@ -1,0 +1,70 @@
+//! Measures the linked judge beside its peers in one interleaved run, prints the tables and whether
+//! the targets are met.
+//!
+//! Every round goes through all rows and, in each, through all its traces; on each trace all peers
+//! run one after the other in an order drawn anew. A time is the best of all rounds for its trace;
+//! what is printed is the mean over the traces. `--rounds N` and `--traces N` change the counts,
+//! `--no-matrix` leaves the slowest peer untimed.
+
+mod peers;
+mod rows;
+mod tables;
+
+use peers::{Peer, Peers, PEERS};
+use racejudge_bench::ffi;
+use racejudge_bench::program::{print, Words};
+use racejudge_bench::rng::Rng;
+use rows::Row;
+
+/// The matrix is timed on the first trace of a row only, and in the first rounds.
+const MATRIX_ROUNDS: usize = 3;
+
+fn skip(peer: Peer, row: &Row, trace: usize, round: usize, matrix: bool) -> bool {
+    match peer {
+        Peer::FastTrack => !row.judged(),
+        Peer::Ancestors => !(matrix && row.judged() && trace == 0 && round < MATRIX_ROUNDS),
+        _ => false,
+    }
+}
+
+/// One round over all rows.
+fn go_round(peers: &mut Peers, rows: &mut [Row], round: usize, matrix: bool, rng: &mut Rng) {
+    for row in rows {
+        for trace in 0..row.traces() {
+            let mut order = PEERS;
+            rng.shuffle(&mut order);
+            for peer in order {
+                if !skip(peer, row, trace, round, matrix) {
+                    row.measure(peers, peer, trace);
+                }
+            }
+        }
+    }
+}
+
+fn main() {
+    let usage = "bench/run [--standin] [--rounds N] [--traces N] [--no-matrix]";
+    let mut words = Words::new(usage);
+    let (rounds, traces) = (words.number("--rounds", 60), words.number("--traces", 6));
+    let matrix = !words.has("--no-matrix");
+    words.end();
+
+    let mut rng = Rng::new(1);
+    let mut peers = Peers::new();
+    print(&format!("judge: {}\n", ffi::LINKED));
+    let mut rows = rows::workloads(&mut peers, traces, &mut rng);
+    let growth = rows.len();
+    rows.extend(rows::growth(&mut peers, traces, &mut rng));
+    let ordering = rows.len();
+    rows.extend(rows::ordering(&mut peers, traces, &mut rng));
+    print(&format!("all judges agree on every trace; {rounds} rounds\n"));
+    for round in 0..rounds {
+        go_round(&mut peers, &mut rows, round, matrix, &mut rng);
+    }
+    let (workloads, growth, ordering) =
+        (&rows[..growth], &rows[growth..ordering], &rows[ordering..]);
+    print(&tables::workloads(workloads));
+    print(&tables::growth(growth));
+    print(&tables::ordering(ordering));
+    print(&tables::summary(workloads, growth));
+}

@@ -1,0 +1,132 @@
+//! What is measured: the linked judge, its peers, and the buffers that are lent to them.
+
+use racejudge_bench::ancestors::Ancestors;
+use racejudge_bench::fasttrack::FastTrack;
+use racejudge_bench::ffi::{self, Judge, Told, ALIGNED, HAND, PROVED};
+use racejudge_bench::program::mismatch;
+use racejudge_bench::trace::*;
+use std::hint::black_box;
+use std::time::Instant;
+
+/// In the order of the columns.
+#[derive(Clone, Copy, PartialEq)]
+pub enum Peer {
+    Judge,
+    Hand,
+    Aligned,
+    FastTrack,
+    Ancestors,
+    Floor,
+}
+
+pub const PEERS: [Peer; 6] =
+    [Peer::Judge, Peer::Hand, Peer::Aligned, Peer::FastTrack, Peer::Ancestors, Peer::Floor];
+
+impl Peer {
+    pub fn name(self) -> &'static str {
+        match self {
+            Peer::Judge => "judge",
+            Peer::Hand => "hand C",
+            Peer::Aligned => "aligned C",
+            Peer::FastTrack => "FastTrack",
+            Peer::Ancestors => "ancestors",
+            Peer::Floor => "floor",
+        }
+    }
+}
+
+/// What is run on a trace: the judge, or the ordering call with its two positions.
+#[derive(Clone, Copy, PartialEq)]
+pub enum Call {
+    Judge,
+    Ordering(usize, usize),
+}
+
+/// The peers' own memory, and the lent buffers, the same for all.
+pub struct Peers {
+    fasttrack: FastTrack,
+    ancestors: Ancestors,
+    workspace: Vec<u16>,
+    first: Vec<u16>,
+    second: Vec<u16>,
+}
+
+impl Peers {
+    pub fn new() -> Self {
+        Peers {
+            fasttrack: FastTrack::default(),
+            ancestors: Ancestors::default(),
+            workspace: vec![0; WORKSPACE + MAX_EVENTS],
+            first: vec![0; MAX_EVENTS],
+            second: vec![0; MAX_EVENTS],
+        }
+    }
+
+    /// Seconds for a call, the mean of `batch` calls. The trace has been agreed on.
+    pub fn time(&mut self, peer: Peer, call: Call, trace: &Trace, batch: usize) -> f64 {
+        let start = Instant::now();
+        for _ in 0..batch {
+            match peer {
+                Peer::Judge => _ = black_box(self.call(&PROVED, call, trace)),
+                Peer::Hand => _ = black_box(self.call(&HAND, call, trace)),
+                Peer::Aligned => _ = black_box(self.call(&ALIGNED, call, trace)),
+                // Safe: a builder made the trace, and keeps the rules.
+                Peer::FastTrack => _ = black_box(unsafe { self.fasttrack.first_race(trace) }),
+                Peer::Ancestors => _ = black_box(self.ancestors.answer(trace)),
+                Peer::Floor => _ = black_box(ffi::floor(trace, &mut self.workspace)),
+            }
+        }
+        start.elapsed().as_secs_f64() / batch as f64
+    }
+
+    fn call(&mut self, judge: &Judge, call: Call, trace: &Trace) -> Told {
+        let Peers { workspace, first, second, .. } = self;
+        match call {
+            Call::Judge => judge.judge(trace, workspace, first, second),
+            Call::Ordering(p, q) => judge.ordering(trace, workspace, p, q),
+        }
+    }
+
+    /// Before anything is measured the linked judges must say what is wanted and leave the same
+    /// buffers.
+    fn linked_agree(&mut self, call: Call, trace: &Trace, wanted: Told) {
+        let mut left = Vec::new();
+        for judge in [&PROVED, &HAND, &ALIGNED] {
+            for buffer in [&mut self.workspace, &mut self.first, &mut self.second] {
+                buffer.fill(7);
+            }
+            let told = self.call(judge, call, trace);
+            if told != wanted {
+                mismatch(&format!("{} said {told:?}, wanted {wanted:?}\non {trace}", judge.name));
+            }
+            left.push((self.workspace.clone(), self.first.clone(), self.second.clone()));
+            if left[0] != left[left.len() - 1] {
+                mismatch(&format!("{} left other buffers\non {trace}", judge.name));
+            }
+        }
+    }
+
+    /// All judges must give the expected answer.
+    pub fn agree(&mut self, trace: &Trace, expected: Answer, matrix: bool) {
+        self.linked_agree(Call::Judge, trace, Told::from(expected));
+        let position = match expected {
+            Answer::Clean => None,
+            Answer::Race(_, t) => Some(t),
+            Answer::Refused(..) => panic!("no workload is refused"),
+        };
+        // Safe: a builder made the trace, and keeps the rules.
+        let race = unsafe { self.fasttrack.first_race(trace) };
+        if race != position {
+            mismatch(&format!("FastTrack said {race:?}, wanted {position:?}\non {trace}"));
+        }
+        if matrix && self.ancestors.answer(trace) != expected {
+            mismatch(&format!("the all-ancestors judge did not say {expected:?}\non {trace}"));
+        }
+    }
+
+    /// All judges must give the answer of the all-ancestors judge.
+    pub fn agree_on_order(&mut self, trace: &Trace, p: usize, q: usize) {
+        let wanted = self.ancestors.ordering(trace, self.workspace.len(), p, q).said;
+        self.linked_agree(Call::Ordering(p, q), trace, Told::from(wanted));
+    }
+}

@@ -1,0 +1,147 @@
+//! The rows of the tables: traces of one kind, and the best time of each peer on each.
+
+use crate::peers::{Call, Peer, Peers, PEERS};
+use racejudge_bench::rng::Rng;
+use racejudge_bench::trace::*;
+use racejudge_bench::workloads::{self, Make, WORKLOADS};
+
+/// The sizes at which growth is measured.
+pub const SIZES: [usize; 5] = [1_024, 4_096, 8_192, 16_384, MAX_EVENTS];
+
+/// Up to this size the all-ancestors judge looks at every trace.
+const MATRIX_EVENTS: usize = 4_096;
+
+/// A call that looks at fewer events than this is too short for the clock: many are timed at once.
+const SHORT: usize = 64;
+const BATCH: usize = 64;
+
+pub struct Row {
+    pub name: &'static str,
+    /// What else tells the row from others.
+    pub detail: String,
+    pub events: usize,
+    pub clean: bool,
+    call: Call,
+    traces: Vec<Trace>,
+    batch: usize,
+    best: Vec<[f64; PEERS.len()]>,
+}
+
+impl Row {
+    fn new(name: &'static str, call: Call, traces: Vec<Trace>, expected: Answer) -> Self {
+        let events = traces[0].len();
+        let looked_at = match expected {
+            Answer::Race(_, t) => t + 1,
+            _ => events,
+        };
+        Row {
+            name,
+            detail: String::new(),
+            events,
+            clean: expected == Answer::Clean,
+            call,
+            batch: if looked_at < SHORT { BATCH } else { 1 },
+            best: vec![[f64::INFINITY; PEERS.len()]; traces.len()],
+            traces,
+        }
+    }
+
+    pub fn judged(&self) -> bool {
+        self.call == Call::Judge
+    }
+
+    pub fn traces(&self) -> usize {
+        self.traces.len()
+    }
+
+    pub fn measure(&mut self, peers: &mut Peers, peer: Peer, trace: usize) {
+        let batch = if peer == Peer::Ancestors { 1 } else { self.batch };
+        let time = peers.time(peer, self.call, &self.traces[trace], batch);
+        let best = &mut self.best[trace][peer as usize];
+        *best = best.min(time);
+    }
+
+    /// The mean over the traces that were measured, in microseconds a call.
+    pub fn micros(&self, peer: Peer) -> f64 {
+        let times = self.best.iter().map(|best| best[peer as usize]);
+        let measured: Vec<f64> = times.filter(|time| time.is_finite()).collect();
+        measured.iter().sum::<f64>() / measured.len() as f64 * 1e6
+    }
+
+    pub fn nanos_an_event(&self, peer: Peer) -> f64 {
+        self.micros(peer) * 1e3 / self.events as f64
+    }
+
+    /// The judge's time over that of a peer.
+    pub fn ratio(&self, peer: Peer) -> f64 {
+        self.micros(Peer::Judge) / self.micros(peer)
+    }
+}
+
+fn traces(make: Make, n: usize, count: usize, rng: &mut Rng) -> Vec<Trace> {
+    let traces: Vec<Trace> = (0..count).map(|_| make(n, rng)).collect();
+    assert!(traces.iter().all(|trace| trace.is_empty() || trace.len() == n), "{n} events");
+    traces
+}
+
+/// Each workload at full size. The all-ancestors judge looks at small traces of every workload and
+/// at one of full size.
+pub fn workloads(peers: &mut Peers, count: usize, rng: &mut Rng) -> Vec<Row> {
+    let mut rows = Vec::new();
+    for workload in &WORKLOADS {
+        for n in [1_024, 2_048] {
+            for trace in traces(workload.make, n, 3, rng) {
+                peers.agree(&trace, (workload.expected)(n), true);
+            }
+        }
+        let traces = traces(workload.make, MAX_EVENTS, count, rng);
+        let expected = (workload.expected)(MAX_EVENTS);
+        for (i, trace) in traces.iter().enumerate() {
+            peers.agree(trace, expected, i == 0);
+        }
+        rows.push(Row::new(workload.name, Call::Judge, traces, expected));
+    }
+    rows
+}
+
+/// Two workloads at each of the sizes, with as many events in all at each.
+pub fn growth(peers: &mut Peers, count: usize, rng: &mut Rng) -> Vec<Row> {
+    let mut rows = Vec::new();
+    let made: [(&str, Make); 2] =
+        [("pipeline", workloads::pipeline), ("random", workloads::random)];
+    for (name, make) in made {
+        for n in SIZES {
+            let traces = traces(make, n, count * MAX_EVENTS / n, rng);
+            for trace in &traces {
+                peers.agree(trace, Answer::Clean, n <= MATRIX_EVENTS);
+            }
+            let row = Row::new(name, Call::Judge, traces, Answer::Clean);
+            rows.push(Row { detail: format!(", {n} events"), ..row });
+        }
+    }
+    rows
+}
+
+/// The ordering call with q early, in the middle and late.
+pub fn ordering(peers: &mut Peers, count: usize, rng: &mut Rng) -> Vec<Row> {
+    let mut rows = Vec::new();
+    let made: [(&str, Make); 3] = [
+        ("pipeline", workloads::pipeline),
+        ("fork tree", workloads::tree),
+        ("random", workloads::random),
+    ];
+    for (name, make) in made {
+        let traces = traces(make, MAX_EVENTS, count, rng);
+        let places =
+            [("early", MAX_EVENTS / 16), ("middle", MAX_EVENTS / 2), ("late", MAX_EVENTS - 1)];
+        for (place, q) in places {
+            let p = q / 3;
+            for trace in &traces {
+                peers.agree_on_order(trace, p, q);
+            }
+            let row = Row::new(name, Call::Ordering(p, q), traces.clone(), Answer::Clean);
+            rows.push(Row { detail: format!(", q {place}"), ..row });
+        }
+    }
+    rows
+}

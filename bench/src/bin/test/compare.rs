@@ -1,0 +1,296 @@
+//! One call of each linked judge held against the slow judge: the answer, the workspace and both
+//! order buffers whole, the cells around them, the trace. Counts what was met.
+
+use racejudge_bench::ancestors::{Ancestors, Outcome};
+use racejudge_bench::extent::{Extent, LIMITS};
+use racejudge_bench::fasttrack::FastTrack;
+use racejudge_bench::ffi::{Judge, Told, ALIGNED, HAND, PROVED};
+use racejudge_bench::program::mismatch;
+use racejudge_bench::rng::Rng;
+use racejudge_bench::trace::*;
+use std::fmt::Debug;
+
+const JUDGES: [&Judge; 3] = [&PROVED, &HAND, &ALIGNED];
+
+/// Cells on either side of each lent slice that must stay as they are.
+const GUARD: usize = 16;
+
+/// The last row that a call over a trace can give.
+const LAST_ROW: usize = 13;
+
+/// How often each answer was met: the two that are no refusal (clean and race, no and yes), and the
+/// rows from 1 on.
+#[derive(Default)]
+struct Counts {
+    plain: [usize; 2],
+    rows: [usize; LAST_ROW + 1],
+}
+
+impl Counts {
+    fn sum(&self) -> usize {
+        self.plain.iter().chain(&self.rows).sum()
+    }
+
+    /// What was never met, but for one row that the call never gives.
+    fn missing(&self, never: usize) -> Option<String> {
+        if self.plain.contains(&0) {
+            return Some("an answer".to_string());
+        }
+        let mut rows = (1..=LAST_ROW).filter(|&row| row != never && self.rows[row] == 0);
+        rows.next().map(|row| format!("refused {row}"))
+    }
+}
+
+/// Cells with any content, of which those between the guards are lent.
+struct Buffer {
+    cells: Vec<u16>,
+    before: Vec<u16>,
+}
+
+impl Buffer {
+    fn lend(&mut self) -> &mut [u16] {
+        let end = self.cells.len() - GUARD;
+        &mut self.cells[GUARD..end]
+    }
+
+    /// The first cell that is wrong: the lent ones must begin with `start`, all others be as they
+    /// were.
+    fn difference(&self, start: &[u16]) -> Option<String> {
+        let (cells, before) = (&self.cells, &self.before);
+        let (from, to) = (GUARD, GUARD + start.len());
+        if cells[from..to] == *start
+            && cells[..from] == before[..from]
+            && cells[to..] == before[to..]
+        {
+            return None;
+        }
+        let wanted = [&before[..from], start, &before[to..]].concat();
+        let at = (0..wanted.len()).find(|&at| cells[at] != wanted[at])?;
+        let place = at as isize - GUARD as isize;
+        Some(format!("cell {place} is {}, wanted {}", cells[at], wanted[at]))
+    }
+}
+
+/// What buffers hold before a call: zeros, ones in every bit, what looks like tasks, anything.
+fn dirt(rng: &mut Rng) -> Vec<u16> {
+    let length = WORKSPACE + MAX_EVENTS + 2 * GUARD;
+    let mut cells = vec![0; length];
+    cells.resize(2 * length, u16::MAX);
+    cells.extend((0..length).map(|_| rng.cell(TASKS)));
+    cells.extend((0..2 * length).map(|_| rng.cell(65_536)));
+    cells
+}
+
+pub struct Test {
+    pub rng: Rng,
+    slow: Ancestors,
+    fasttrack: FastTrack,
+    dirt: Vec<u16>,
+    judged: Counts,
+    ordered: Counts,
+    /// The greatest of the traces that were found clean.
+    extent: Extent,
+}
+
+impl Test {
+    pub fn new(seed: u64) -> Self {
+        let mut rng = Rng::new(seed);
+        let dirt = dirt(&mut rng);
+        Test {
+            rng,
+            slow: Ancestors::default(),
+            fasttrack: FastTrack::default(),
+            dirt,
+            judged: Counts::default(),
+            ordered: Counts::default(),
+            extent: Extent::default(),
+        }
+    }
+
+    fn buffer(&mut self, lent: usize) -> Buffer {
+        let whole = lent + 2 * GUARD;
+        let from = self.rng.below(self.dirt.len() - whole + 1);
+        let before = self.dirt[from..from + whole].to_vec();
+        Buffer { cells: before.clone(), before }
+    }
+
+    /// The judge on a trace, with slices as long as needed or a little longer.
+    pub fn judge(&mut self, trace: &Trace) -> Answer {
+        let n = trace.len();
+        let mut lent = |need: usize| need + self.rng.below(3);
+        let (workspace, first, second) = (lent(WORKSPACE + n), lent(n), lent(n));
+        self.judge_with(trace, workspace, first, second)
+    }
+
+    pub fn judge_with(
+        &mut self,
+        trace: &Trace,
+        workspace: usize,
+        first: usize,
+        second: usize,
+    ) -> Answer {
+        let wanted = self.slow.judge(trace, workspace, first, second);
+        let (first_order, second_order) = wanted.orders.clone().unwrap_or_default();
+        for judge in JUDGES {
+            let copy = trace.clone();
+            let mut w = self.buffer(workspace);
+            let (mut f, mut s) = (self.buffer(first), self.buffer(second));
+            let told = judge.judge(&copy, w.lend(), f.lend(), s.lend());
+            let differences = [
+                ("answer", answer_difference(told, wanted.said)),
+                ("trace", trace_difference(&copy, trace)),
+                ("workspace", w.difference(&vec![0; wanted.cleared])),
+                ("first order buffer", f.difference(&first_order)),
+                ("second order buffer", s.difference(&second_order)),
+            ];
+            check(judge, "judge", trace, &wanted, &differences);
+        }
+        match wanted.said {
+            Answer::Clean => {
+                self.judged.plain[0] += 1;
+                self.extent = self.extent.max(Extent::of(trace));
+            }
+            Answer::Race(..) => self.judged.plain[1] += 1,
+            Answer::Refused(row, _) => self.judged.rows[row] += 1,
+        }
+        self.same_race(trace, wanted.said);
+        wanted.said
+    }
+
+    /// FastTrack knows no rules; where they are kept it must see the same race.
+    fn same_race(&mut self, trace: &Trace, said: Answer) {
+        let (upto, wanted) = match said {
+            Answer::Clean => (trace.len(), None),
+            Answer::Race(_, t) => (t + 1, Some(t)),
+            Answer::Refused(..) => return,
+        };
+        let mut kept = trace.clone();
+        kept.truncate(upto);
+        // Safe: the slow judge found that the rules are kept so far.
+        let said = unsafe { self.fasttrack.first_race(&kept) };
+        if said != wanted {
+            mismatch(&format!("FastTrack said {said:?}, wanted {wanted:?}\non {kept}"));
+        }
+    }
+
+    /// The ordering call, with a workspace as long as needed or a little longer.
+    pub fn ordering(&mut self, trace: &Trace, p: usize, q: usize) -> Ordering {
+        let workspace = WORKSPACE + trace.len() + self.rng.below(3);
+        self.ordering_with(trace, workspace, p, q)
+    }
+
+    pub fn ordering_with(
+        &mut self,
+        trace: &Trace,
+        workspace: usize,
+        p: usize,
+        q: usize,
+    ) -> Ordering {
+        let wanted = self.slow.ordering(trace, workspace, p, q);
+        for judge in JUDGES {
+            let copy = trace.clone();
+            let mut w = self.buffer(workspace);
+            let told = judge.ordering(&copy, w.lend(), p, q);
+            let differences = [
+                ("answer", answer_difference(told, wanted.said)),
+                ("trace", trace_difference(&copy, trace)),
+                ("workspace", w.difference(&vec![0; wanted.cleared])),
+            ];
+            check(judge, &format!("ordering {p} {q}"), trace, &wanted, &differences);
+        }
+        match wanted.said {
+            Ordering::No => self.ordered.plain[0] += 1,
+            Ordering::Yes => self.ordered.plain[1] += 1,
+            Ordering::Refused(row, _) => self.ordered.rows[row] += 1,
+        }
+        wanted.said
+    }
+
+    /// The judge, now and then also on short buffers, and the ordering call on a few pairs.
+    pub fn both(&mut self, trace: &Trace, pairs: usize) -> Answer {
+        let said = self.judge(trace);
+        if self.rng.chance(1, 16) {
+            let n = trace.len();
+            let mut lent =
+                |need: usize| if self.rng.chance(1, 2) { need } else { self.rng.below(need + 1) };
+            let (workspace, first, second) = (lent(WORKSPACE + n), lent(n), lent(n));
+            self.judge_with(trace, workspace, first, second);
+            self.ordering_with(trace, workspace, 0, 0);
+        }
+        for _ in 0..pairs {
+            let (p, q) = self.pair(trace.len());
+            self.ordering(trace, p, q);
+        }
+        said
+    }
+
+    /// Two positions, mostly with p before q; now and then the other way round or past the end.
+    fn pair(&mut self, n: usize) -> (usize, usize) {
+        let (p, q) = (self.rng.below(n), self.rng.below(n));
+        let far = self.rng.one_of(&[n, n + 1, 65_536, usize::MAX]);
+        match self.rng.below(16) {
+            0 => (far, q),
+            1 => (p, far),
+            2 => (p.max(q), p.min(q)),
+            _ => (p.min(q), p.max(q)),
+        }
+    }
+
+    /// How often each answer was met.
+    pub fn table(&self) -> String {
+        let line = |name: &str, judged: usize, ordered: usize| {
+            format!("{name:>14} {judged:>9} {ordered:>9}\n")
+        };
+        let (judged, ordered) = (&self.judged, &self.ordered);
+        let mut table = format!("{:>14} {:>9} {:>9}\n", "answer", "judge", "ordering");
+        table += &line("clean / no", judged.plain[0], ordered.plain[0]);
+        table += &line("race / yes", judged.plain[1], ordered.plain[1]);
+        for row in 1..=LAST_ROW {
+            table += &line(&format!("refused {row}"), judged.rows[row], ordered.rows[row]);
+        }
+        table + &line("calls", judged.sum(), ordered.sum())
+    }
+
+    /// What a call can give but never gave, or the limits if they were not met.
+    pub fn missing(&self) -> Option<String> {
+        // Row 4 belongs to the judge alone, row 13 to the ordering call.
+        let judged = self.judged.missing(13).map(|what| format!("{what} of the judge"));
+        let ordered = self.ordered.missing(4).map(|what| format!("{what} of the ordering call"));
+        let limits = (self.extent != LIMITS).then(|| format!("{LIMITS:?}, but {:?}", self.extent));
+        judged.or(ordered).or(limits)
+    }
+
+    pub fn closing_line(&self) -> String {
+        let (judged, ordered) = (self.judged.sum(), self.ordered.sum());
+        let Extent { events, tasks, links } = self.extent;
+        format!(
+            "{judged} calls of the judge and {ordered} of the ordering call, up to {events} \
+             events, {tasks} tasks and chains of {links} links: no mismatch\n"
+        )
+    }
+}
+
+fn answer_difference(told: Told, wanted: impl Into<Told>) -> Option<String> {
+    let wanted = wanted.into();
+    (told != wanted).then(|| format!("{told:?}, wanted {wanted:?}"))
+}
+
+fn trace_difference(left: &Trace, lent: &Trace) -> Option<String> {
+    (left != lent).then(|| "changed".to_string())
+}
+
+/// Ends the test at the first difference.
+fn check<T: Debug>(
+    judge: &Judge,
+    call: &str,
+    trace: &Trace,
+    wanted: &Outcome<T>,
+    differences: &[(&str, Option<String>)],
+) {
+    for (what, difference) in differences {
+        if let Some(difference) = difference {
+            let name = judge.name;
+            mismatch(&format!("{name}, {call}: {what} {difference}\n{wanted:?}\non {trace}"));
+        }
+    }
+}

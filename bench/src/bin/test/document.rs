@@ -1,0 +1,93 @@
+//! The runs and texts of document 01, with its own answers.
+
+use crate::compare::Test;
+use racejudge_bench::ancestors::Ancestors;
+use racejudge_bench::text;
+use racejudge_bench::trace::Answer::{Clean, Race, Refused};
+use racejudge_bench::trace::*;
+
+/// Events in document 01's notation, with a number for a kind that has no name.
+const RUNS: [(&str, Answer); 21] = [
+    ("", Clean),
+    ("0 write 1023", Clean),
+    ("0 write 1024", Refused(8, 0)),
+    ("0 fork 1023", Clean),
+    ("0 fork 1024", Refused(9, 0)),
+    ("0 fork 1, 1 read 5, 1 halt, 0 read 5", Clean),
+    ("0 fork 1, 1 read 5, 1 halt, 0 write 5", Race(1, 3)),
+    ("0 fork 1, 1 write 5, 1 halt, 0 read 5", Race(1, 3)),
+    (WRITES_TWICE, Race(1, 4)),
+    ("0 fork 1, 1 halt, 0 fork 2, 2 halt, 0 join 1", Refused(11, 4)),
+    ("0 fork 1, 1 halt, 0 fork 2, 2 halt, 0 join 2, 0 join 1", Clean),
+    (JOINS_A_SIBLING, Race(1, 7)),
+    (
+        "0 fork 1, 1 read 7, 1 halt, 0 read 7, 0 fork 2, 2 join 1, 2 halt, 0 join 2, 0 write 7",
+        Clean,
+    ),
+    ("0 halt, 0 5 0", Refused(5, 1)),
+    // Judges that deceive.
+    ("0 fork 1, 1 read 5, 1 halt, 0 fork 2, 2 read 5, 2 halt, 0 join 2, 0 write 5", Race(1, 7)),
+    ("0 write 5, 0 fork 1, 1 write 5", Clean),
+    // The examples of rows 6, 7, 10, 11 and 12.
+    ("0 halt, 0 read 1", Refused(6, 1)),
+    ("1 read 0", Refused(7, 0)),
+    ("0 fork 0", Refused(10, 0)),
+    ("0 join 1", Refused(11, 0)),
+    ("0 halt 3", Refused(12, 0)),
+];
+
+const WRITES_TWICE: &str = "0 fork 1, 1 write 5, 1 write 5, 1 halt, 0 read 5";
+const JOINS_A_SIBLING: &str =
+    "0 fork 1, 1 read 7, 1 halt, 0 read 7, 0 fork 2, 2 join 1, 2 halt, 0 write 7";
+
+const ORDERS: [(&str, [&[u16]; 2]); 2] = [
+    (WRITES_TWICE, [&[0, 1, 4, 2, 3], &[0, 4, 1, 2, 3]]),
+    (JOINS_A_SIBLING, [&[0, 3, 4, 1, 7, 2, 5, 6], &[0, 3, 4, 7, 1, 2, 5, 6]]),
+];
+
+fn trace(run: &str) -> Trace {
+    let mut trace = Trace::default();
+    for event in run.split(", ").filter(|event| !event.is_empty()) {
+        let words: Vec<&str> = event.split(' ').collect();
+        let number = |at: usize| words.get(at).map_or(0, |word| word.parse().expect("a number"));
+        let kind = match words[1] {
+            "read" => READ,
+            "write" => WRITE,
+            "fork" => FORK,
+            "join" => JOIN,
+            "halt" => HALT,
+            _ => number(1) as u8,
+        };
+        trace.push(number(0), kind, number(2));
+    }
+    trace
+}
+
+pub fn runs(test: &mut Test) {
+    for (run, answer) in RUNS {
+        assert_eq!(test.judge(&trace(run)), answer, "the slow judge on {run}");
+    }
+    for (run, [first, second]) in ORDERS {
+        let (trace, n) = (trace(run), run.split(", ").count());
+        let orders = Ancestors::default().judge(&trace, WORKSPACE + n, n, n).orders;
+        assert_eq!(orders, Some((first.to_vec(), second.to_vec())), "the slow judge on {run}");
+    }
+    assert_eq!(test.ordering(&Trace::default(), 0, 0), Ordering::Refused(13, 0));
+}
+
+/// The slow judge's own way from a text to the output, which the owner compares with the program's.
+pub fn texts() {
+    let said = |input: &[u8], output: &str| {
+        let shown = String::from_utf8_lossy(&input[..input.len().min(80)]);
+        assert_eq!(text::answer(input), output, "the slow judge on {shown}");
+    };
+    said(b"T0|fork(T1)|10\nT1|w(V5)|20\nT0|r(V5)|30\n", "race 1 3\n0 1 3 2\n0 3 1 2\n");
+    said(b"", "clean 0\n");
+    said(b"T0|r(5)|1\n", "refused 14 0\n");
+    said(b"T0|r(V5)|1\nT0|r(V05)|1\n", "refused 14 1\n");
+    said(b"T0|r(V5)|1", "refused 14 0\n");
+    said(b"T0|r(V65536)|1\n", "refused 14 0\n");
+    said(b"T0|r(V65535)|1\n", "refused 8 0\n");
+    said(&b"T0|r(V5)|1\n".repeat(2_048), "clean 2048\n");
+    said(&b"T0|r(V5)|1\n".repeat(2_049), "refused 15 2048\n");
+}

@@ -1,0 +1,167 @@
+//! The limits: 32,768 events, 1,024 tasks, chains of 10 links, and lent slices of every length.
+
+use crate::compare::Test;
+use racejudge_bench::builder::Builder;
+use racejudge_bench::extent::{Extent, LIMITS};
+use racejudge_bench::rng::Rng;
+use racejudge_bench::trace::*;
+use racejudge_bench::workloads::{binomial, join_equals};
+
+pub fn all(test: &mut Test) {
+    events(test);
+    tasks(test);
+    chains(test);
+    buffer_lengths(test);
+    slice_lengths(test);
+}
+
+fn reads(n: usize) -> Trace {
+    Trace::of(&vec![(0, READ, 3); n])
+}
+
+fn events(test: &mut Test) {
+    let (most, over) = (reads(MAX_EVENTS), reads(MAX_EVENTS + 1));
+    assert_eq!(test.judge(&most), Answer::Clean);
+    assert_eq!(test.ordering(&most, 5, MAX_EVENTS - 1), Ordering::Yes);
+    assert_eq!(test.ordering(&most, MAX_EVENTS - 1, 5), Ordering::No);
+    assert_eq!(test.judge(&over), Answer::Refused(2, 0));
+    assert_eq!(test.ordering(&over, 0, 0), Ordering::Refused(2, 0));
+    // The first condition that holds decides.
+    assert_eq!(test.judge_with(&over, 0, 0, 0), Answer::Refused(2, 0));
+    assert_eq!(test.ordering_with(&over, 0, 0, 0), Ordering::Refused(2, 0));
+}
+
+/// Task 0 and 1,023 others. `each` is done for every one of them, `last` once at the end.
+fn all_tasks(each: fn(&mut Builder), last: fn(&mut Builder)) -> Trace {
+    let mut b = Builder::default();
+    while b.numbers_left() > 0 {
+        each(&mut b);
+    }
+    last(&mut b);
+    b.trace
+}
+
+fn join_all(b: &mut Builder) {
+    while b.halted() > 0 {
+        b.join();
+    }
+}
+
+/// Each task forks a child, which touches location 7.
+fn nested(b: &mut Builder) {
+    b.fork();
+    b.write(7);
+}
+
+/// Task 0's children, one after the other.
+fn beside(b: &mut Builder) {
+    b.fork();
+    b.read(7);
+    b.halt();
+}
+
+fn tasks(test: &mut Test) {
+    let nested_and_back = |b: &mut Builder| {
+        while b.depth() > 1 {
+            b.halt();
+            b.join();
+            b.write(7);
+        }
+    };
+    let joined_at_once = |b: &mut Builder| {
+        nested(b);
+        b.halt();
+        b.join();
+    };
+    let joined_late = |b: &mut Builder| {
+        join_all(b);
+        b.write(7);
+    };
+    let clean = [
+        all_tasks(nested, |b| b.write(7)),
+        all_tasks(nested, nested_and_back),
+        all_tasks(joined_at_once, |b| b.write(7)),
+        all_tasks(beside, joined_late),
+    ];
+    for trace in clean {
+        assert_eq!(Extent::of(&trace).tasks, LIMITS.tasks);
+        assert_eq!(test.both(&trace, 20), Answer::Clean);
+    }
+    let racing = all_tasks(beside, |b| b.write(7));
+    assert_eq!(test.both(&racing, 20), Answer::Race(1, racing.len() - 1));
+}
+
+/// Task 0 writes what the deepest task of a halted group of 512 touched: the search climbs 9 links.
+/// A group of 1,024 has task 0 in it, so no race is found over more.
+fn race_over_a_chain(rng: &mut Rng) -> Trace {
+    let mut owned = vec![Vec::new(); 512];
+    owned[511].push(7);
+    let mut b = Builder::default();
+    b.fork();
+    join_equals(&mut b, rng, 9, 0, &owned, 1);
+    b.halt();
+    b.write(7);
+    b.trace
+}
+
+fn chains(test: &mut Test) {
+    for _ in 0..4 {
+        let trace = binomial(MAX_EVENTS, &mut test.rng);
+        assert_eq!(Extent::of(&trace).links, LIMITS.links);
+        assert_eq!(test.both(&trace, 8), Answer::Clean);
+        // The first access is that of the deepest task.
+        let p = trace.kinds.iter().position(|&kind| kind <= WRITE).expect("an access");
+        assert_eq!(test.ordering(&trace, p, MAX_EVENTS - 1), Ordering::Yes);
+    }
+    let trace = race_over_a_chain(&mut test.rng);
+    let t = trace.len() - 1;
+    assert_eq!(test.judge(&trace), Answer::Race(10, t));
+    assert_eq!(test.ordering(&trace, 10, t), Ordering::No);
+}
+
+/// Rows 3 and 4, each alone and both at once.
+fn buffer_lengths(test: &mut Test) {
+    for n in [0, 1, 2, 100] {
+        let (trace, need) = (reads(n), WORKSPACE + n);
+        let short = n.saturating_sub(1);
+        for workspace in [0, 1, 1_024, WORKSPACE - 1, WORKSPACE, need - 1, need, need + 999] {
+            for first in [0, short, n, n + 1, 2 * n + 50] {
+                for second in [0, short, n, n + 1] {
+                    test.judge_with(&trace, workspace, first, second);
+                }
+            }
+            test.ordering_with(&trace, workspace, 0, short);
+            test.ordering_with(&trace, workspace, n, 0);
+        }
+    }
+    assert_eq!(test.judge_with(&reads(1), WORKSPACE, 1, 1), Answer::Refused(3, 0));
+    assert_eq!(test.judge_with(&reads(1), WORKSPACE + 1, 0, 1), Answer::Refused(4, 0));
+    assert_eq!(test.judge_with(&reads(1), WORKSPACE + 1, 1, 0), Answer::Refused(4, 0));
+}
+
+/// Row 1, which comes before all others.
+fn slice_lengths(test: &mut Test) {
+    const OVER: usize = MAX_EVENTS + 1;
+    for [kinds, tasks, operands] in [
+        [0, 1, 1],
+        [1, 0, 1],
+        [1, 1, 0],
+        [2, 3, 3],
+        [3, 2, 3],
+        [3, 3, 2],
+        [0, 0, 9],
+        [OVER, OVER, 4],
+        [4, OVER, 4],
+        [0, 7, 0],
+    ] {
+        let mut trace = reads(OVER);
+        trace.kinds.truncate(kinds);
+        trace.tasks.truncate(tasks);
+        trace.operands.truncate(operands);
+        for (workspace, orders) in [(0, 0), (WORKSPACE + OVER, OVER)] {
+            let said = test.judge_with(&trace, workspace, orders, orders);
+            assert_eq!(said, Answer::Refused(1, 0));
+            assert_eq!(test.ordering_with(&trace, workspace, 0, 0), Ordering::Refused(1, 0));
+        }
+    }
+}

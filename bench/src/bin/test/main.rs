@@ -1,0 +1,107 @@
+//! Compares the linked judges with the all-ancestors judge, on document 01's runs, on every short
+//! trace, at the limits, on long traces and on random ones, whole and damaged. The first difference
+//! is printed with its trace and ends the test with status 1. `--seed N` draws other traces,
+//! `--times N` draws more.
+
+mod compare;
+mod document;
+mod limits;
+
+use compare::Test;
+use racejudge_bench::ffi;
+use racejudge_bench::line::Line;
+use racejudge_bench::program::{fail, print, Words};
+use racejudge_bench::samples;
+use racejudge_bench::trace::*;
+use racejudge_bench::workloads::WORKLOADS;
+
+/// Every trace of up to `more` further events over two locations, and each way to break a rule in
+/// the event after.
+fn every_short(test: &mut Test, trace: &Trace, forked: u16, more: usize) {
+    test.both(trace, 1);
+    for task in 0..=forked + 1 {
+        for (kind, operand) in short_events(forked) {
+            let mut line = Line::start();
+            for p in 0..trace.len() {
+                let (task, kind, operand) = trace.event(p);
+                line.step(task, kind, operand).expect("only traces that keep the rules go on");
+            }
+            let mut longer = trace.clone();
+            longer.push(task, kind, operand);
+            match line.step(task, kind, operand) {
+                Ok(()) if more > 0 => {
+                    every_short(test, &longer, forked + u16::from(kind == FORK), more - 1);
+                }
+                Ok(()) => {}
+                // A wrong actor is a wrong actor whatever it does.
+                Err(7) if kind != READ || operand != 0 => {}
+                Err(_) => _ = test.judge(&longer),
+            }
+        }
+    }
+}
+
+fn short_events(forked: u16) -> Vec<(u8, u16)> {
+    let mut events = vec![(READ, 0), (WRITE, 0), (READ, 1), (WRITE, 1), (READ, 1_024)];
+    events.extend([(FORK, forked + 1), (FORK, forked), (FORK, 1_024)]);
+    events.extend((0..=forked + 1).map(|task| (JOIN, task)));
+    events.extend([(HALT, 0), (HALT, 1), (5, 0)]);
+    events
+}
+
+/// The workloads of the benchmark, whole and damaged, and long random traces.
+fn long_traces(test: &mut Test) {
+    for workload in &WORKLOADS {
+        for n in [1_024, 2_048, 8_192, MAX_EVENTS] {
+            let trace = (workload.make)(n, &mut test.rng);
+            let said = test.both(&trace, 3);
+            assert_eq!(said, (workload.expected)(n), "{}, {n} events", workload.name);
+            let damaged = samples::damage(&mut test.rng, &trace);
+            test.both(&damaged, 1);
+        }
+    }
+    for care in [100, 100, 100, 97] {
+        // As much below the limit as the halts at the end may need.
+        let trace = samples::valid(&mut test.rng, MAX_EVENTS - TASKS, care);
+        test.both(&trace, 2);
+    }
+}
+
+fn random_traces(test: &mut Test, times: usize) {
+    for (count, length, pairs) in
+        [(20_000, 12, 3), (6_000, 60, 4), (1_500, 600, 4), (150, 4_000, 4)]
+    {
+        for i in 0..count * times {
+            let n = test.rng.below(length + 1);
+            let care = [0, 0, 90, 100][i % 4];
+            let trace = samples::valid(&mut test.rng, n, care);
+            test.both(&trace, pairs);
+            let damaged = samples::damage(&mut test.rng, &trace);
+            test.both(&damaged, 1);
+        }
+    }
+    for _ in 0..20_000 * times {
+        let n = test.rng.below(8);
+        let trace = samples::noise(&mut test.rng, n);
+        test.both(&trace, 1);
+    }
+}
+
+fn main() {
+    let mut words = Words::new("bench/test [--standin] [--seed N] [--times N]");
+    let (seed, times) = (words.number("--seed", 1), words.number("--times", 1));
+    words.end();
+    print(&format!("judge: {}\n", ffi::LINKED));
+    let mut test = Test::new(seed as u64);
+    document::runs(&mut test);
+    document::texts();
+    every_short(&mut test, &Trace::default(), 0, 5);
+    limits::all(&mut test);
+    long_traces(&mut test);
+    random_traces(&mut test, times);
+    print(&test.table());
+    if let Some(missing) = test.missing() {
+        fail(&format!("MISSING: never met: {missing}"));
+    }
+    print(&test.closing_line());
+}

@@ -1,0 +1,116 @@
+//! Writes traces that keep the line rules, and knows, in a plain way of its own, whether an access
+//! would race.
+
+use crate::rng::Rng;
+use crate::trace::*;
+
+pub struct Builder {
+    pub trace: Trace,
+    active: Vec<u16>,
+    left: Vec<u16>,
+    /// For each task the task of the line that it was joined into, directly or by way of others.
+    holder: Vec<u16>,
+    /// Numbers not used yet; the last is the next.
+    numbers: Vec<u16>,
+    /// For each location the tasks that have read or written it.
+    readers: Vec<Vec<u16>>,
+    writers: Vec<Vec<u16>>,
+}
+
+/// Task 0 runs alone. Tasks will be numbered in the order in which they are forked.
+impl Default for Builder {
+    fn default() -> Self {
+        Builder {
+            trace: Trace::default(),
+            active: vec![0],
+            left: Vec::new(),
+            holder: (0..TASKS as u16).collect(),
+            numbers: (1..TASKS as u16).rev().collect(),
+            readers: vec![Vec::new(); LOCATIONS],
+            writers: vec![Vec::new(); LOCATIONS],
+        }
+    }
+}
+
+impl Builder {
+    /// Tasks will be numbered in any order.
+    pub fn shuffled(rng: &mut Rng) -> Self {
+        let mut builder = Builder::default();
+        rng.shuffle(&mut builder.numbers);
+        builder
+    }
+
+    pub fn numbers_left(&self) -> usize {
+        self.numbers.len()
+    }
+
+    /// The running task and its paused ancestors, in number.
+    pub fn depth(&self) -> usize {
+        self.active.len()
+    }
+
+    /// The halted tasks that are not joined, in number.
+    pub fn halted(&self) -> usize {
+        self.left.len()
+    }
+
+    fn running(&self) -> u16 {
+        *self.active.last().expect("task 0 has not halted")
+    }
+
+    pub fn fork(&mut self) {
+        let child = self.numbers.pop().expect("a number is left");
+        self.trace.push(self.running(), FORK, child);
+        self.active.push(child);
+    }
+
+    pub fn halt(&mut self) {
+        let task = self.running();
+        self.trace.push(task, HALT, 0);
+        self.active.pop();
+        self.left.push(task);
+    }
+
+    pub fn join(&mut self) {
+        let joined = self.left.pop().expect("a halted task stands to the left");
+        let joiner = self.running();
+        self.trace.push(joiner, JOIN, joined);
+        for holder in self.holder.iter_mut().filter(|holder| **holder == joined) {
+            *holder = joiner;
+        }
+    }
+
+    /// Whether an access by the running task would race with an earlier one.
+    pub fn would_race(&self, kind: u8, location: u16) -> bool {
+        let unordered = |tasks: &Vec<u16>| {
+            tasks.iter().any(|&task| self.left.contains(&self.holder[task as usize]))
+        };
+        let l = location as usize;
+        unordered(&self.writers[l]) || kind == WRITE && unordered(&self.readers[l])
+    }
+
+    pub fn access(&mut self, kind: u8, location: u16) {
+        let task = self.running();
+        self.trace.push(task, kind, location);
+        let list = match kind {
+            READ => &mut self.readers[location as usize],
+            _ => &mut self.writers[location as usize],
+        };
+        if !list.contains(&task) {
+            list.push(task);
+        }
+    }
+
+    pub fn read(&mut self, location: u16) {
+        self.access(READ, location);
+    }
+
+    pub fn write(&mut self, location: u16) {
+        self.access(WRITE, location);
+    }
+
+    /// A read or a write, as likely.
+    pub fn touch(&mut self, rng: &mut Rng, location: u16) {
+        self.access(rng.cell(2) as u8, location);
+    }
+}
