@@ -24,12 +24,13 @@ const fn racing(name: &'static str, make: Make, expected: fn(usize) -> Answer) -
 }
 
 /// The workloads of the table, in its order.
-pub const WORKLOADS: [Workload; 10] = [
+pub const WORKLOADS: [Workload; 11] = [
     clean("pipeline of 32 stages", pipeline),
     clean("fork tree", tree),
     clean("one task alone", alone),
     clean("binomial joins, chains of 10", binomial),
     clean("chains of 8 climbed often", deep_task),
+    clean("chains of 7 grown 15 times", regrown),
     clean("random, 1,024 locations", random),
     racing("race at the end, early partner", late_race_early_partner, |n| Answer::Race(1, n - 1)),
     racing("race at the end, late partner", late_race_late_partner, |n| Answer::Race(n - 3, n - 1)),
@@ -48,14 +49,14 @@ fn touch_one(b: &mut Builder, rng: &mut Rng, low: u16, count: usize) {
     b.touch(rng, location);
 }
 
-/// Items run one after the other through 32 stages, a task for each item at
+/// Items run one after the other through the stages (32 for 32,768 events), a task for each item at
 /// each stage. The task joins the one that had the item before at the same stage, works, and forks
 /// the next stage. It touches its stage's locations and its item's, and reads a table that task 0
 /// wrote at first.
 pub fn pipeline(n: usize, rng: &mut Rng) -> Trace {
     let mut b = Builder::default();
     let tasks = children(n);
-    let stages = 32;
+    let stages = (tasks + 1).isqrt();
     let (each, spare) = ((n - 3 * tasks) / tasks, (n - 3 * tasks) % tasks);
     for i in 0..spare {
         b.write(960 + (i % 64) as u16);
@@ -220,10 +221,40 @@ fn deep_task(n: usize, rng: &mut Rng) -> Trace {
     b.trace
 }
 
-/// Random forks, halts and joins, random accesses that do not race.
+/// 15 times a group of equals grows (64 tasks for 32,768 events) whose deepest task touched many
+/// locations while it was alone. Task 0 joins the group and touches the same locations: every
+/// search climbs the whole chain, 7 links, whatever a judge notes.
+pub fn regrown(n: usize, rng: &mut Rng) -> Trace {
+    const TIMES: usize = 15;
+    let mut b = Builder::default();
+    let depth = (children(n) + 1).ilog2() - 4;
+    let tasks = 1usize << depth;
+    let each = (n / TIMES - 3 * tasks) / 2;
+    let mut places: Vec<u16> = (0..LOCATIONS as u16).collect();
+    let mut owned = vec![Vec::new(); tasks];
+    for _ in 0..TIMES {
+        rng.shuffle(&mut places);
+        owned[tasks - 1] = places[..each].to_vec();
+        b.fork();
+        join_equals(&mut b, rng, depth, 0, &owned, each);
+        b.halt();
+        b.join();
+        rng.shuffle(&mut places[..each]);
+        for &l in &places[..each] {
+            b.touch(rng, l);
+        }
+    }
+    while b.trace.len() < n {
+        touch_one(&mut b, rng, 0, LOCATIONS);
+    }
+    b.trace
+}
+
+/// Random forks, halts and joins, random accesses that do not race. There are as many locations as
+/// tasks, so that each is touched as often at every size.
 pub fn random(n: usize, rng: &mut Rng) -> Trace {
     let mut b = Builder::shuffled(rng);
-    random_clean(&mut b, rng, n, children(n), LOCATIONS, 0);
+    random_clean(&mut b, rng, n, children(n), children(n) + 1, 0);
     b.trace
 }
 

@@ -5,7 +5,7 @@ use racejudge_bench::builder::Builder;
 use racejudge_bench::extent::{Extent, LIMITS};
 use racejudge_bench::rng::Rng;
 use racejudge_bench::trace::*;
-use racejudge_bench::workloads::{binomial, join_equals};
+use racejudge_bench::workloads::{binomial, join_equals, regrown};
 
 pub fn all(test: &mut Test) {
     events(test);
@@ -113,6 +113,8 @@ fn chains(test: &mut Test) {
         let p = trace.kinds.iter().position(|&kind| kind <= WRITE).expect("an access");
         assert_eq!(test.ordering(&trace, p, MAX_EVENTS - 1), Ordering::Yes);
     }
+    let trace = regrown(MAX_EVENTS, &mut test.rng);
+    assert_eq!(Extent::of(&trace).links, 7);
     let trace = race_over_a_chain(&mut test.rng);
     let t = trace.len() - 1;
     assert_eq!(test.judge(&trace), Answer::Race(10, t));
