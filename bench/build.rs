@@ -1,7 +1,8 @@
 //! Builds what the programs link: the hand-written C judge (always, under the names `hand_*` and,
 //! with branches kept clear of 32-byte bounds, `aligned_*`) and the judge that is measured and
 //! tested. The latter is the archive that RACEJUDGE_LIB names; without that variable the
-//! hand-written judge takes its place once more, under the exported names `racejudge_*`.
+//! hand-written judge takes its place once more, under the exported names `racejudge_*`. Without
+//! the feature `linked` nothing is built.
 //!
 //! In every archive each function's section is set to start at a multiple of 64 bytes: then what
 //! else a program holds does not move the hot loops, and times repeat from build to build.
@@ -14,11 +15,15 @@ const SOURCE: &str = "src/handwritten.c";
 const INCLUDE: &str = "../include";
 
 fn main() {
-    let out = PathBuf::from(env::var("OUT_DIR").expect("OUT_DIR"));
+    println!("cargo:rerun-if-changed=build.rs");
+    if env::var_os("CARGO_FEATURE_LINKED").is_none() {
+        return;
+    }
     println!("cargo:rerun-if-changed={SOURCE}");
     println!("cargo:rerun-if-changed={INCLUDE}/racejudge.h");
     println!("cargo:rerun-if-env-changed=RACEJUDGE_LIB");
     println!("cargo:rerun-if-env-changed=CC");
+    let out = PathBuf::from(env::var_os("OUT_DIR").expect("cargo sets OUT_DIR"));
     println!("cargo:rustc-link-search=native={}", out.display());
 
     compile(&out, "hand", &["-DNAME=hand"]);
@@ -26,10 +31,10 @@ fn main() {
     match env::var("RACEJUDGE_LIB") {
         Ok(path) => {
             println!("cargo:rerun-if-changed={path}");
-            let copy = out.join("libgiven.a");
-            std::fs::copy(&path, copy).expect("RACEJUDGE_LIB names an archive");
+            let copied = std::fs::copy(&path, out.join("libgiven.a"));
+            copied.unwrap_or_else(|error| panic!("RACEJUDGE_LIB={path}: {error}"));
             link(&out, "given");
-            let file = Path::new(&path).file_name().expect("RACEJUDGE_LIB names a file");
+            let file = Path::new(&path).file_name().expect("what was copied has a name");
             println!("cargo:rustc-env=RACEJUDGE_NAME={}", file.to_string_lossy());
         }
         Err(_) => {
@@ -48,8 +53,11 @@ fn compile(out: &Path, name: &str, words: &[&str]) {
         .args(words)
         .args(["-I", INCLUDE, "-c", SOURCE, "-o"])
         .arg(&object));
+    // A new archive each time: its members are set as `link` has them, not added to.
     let library = out.join(format!("lib{name}.a"));
-    let _ = std::fs::remove_file(&library);
+    if library.exists() {
+        std::fs::remove_file(&library).expect("an old archive can be removed");
+    }
     run(Command::new("ar").arg("crs").arg(&library).arg(&object));
     link(out, name);
 }
@@ -76,6 +84,8 @@ fn branches_within_32_bytes() -> &'static str {
 }
 
 fn run(command: &mut Command) {
-    let status = command.status().expect("the command starts");
-    assert!(status.success(), "{command:?} failed");
+    match command.status() {
+        Ok(status) => assert!(status.success(), "{command:?}: {status}"),
+        Err(error) => panic!("{command:?}: {error}"),
+    }
 }

@@ -9,6 +9,7 @@ pub mod ancestors;
 pub mod builder;
 pub mod extent;
 pub mod fasttrack;
+#[cfg(feature = "linked")]
 pub mod ffi;
 pub mod line;
 pub mod program;
