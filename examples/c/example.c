@@ -58,5 +58,9 @@ int main(void)
         printf("refused %" PRIu64 " %" PRIu64 "\n", values[0], values[1]);
     else
         printf("does 1 reach 3: %s\n", said == RACEJUDGE_YES ? "yes" : "no");
+    if (fflush(stdout) != 0) {
+        perror("example: standard output");
+        return 1;
+    }
     return 0;
 }
