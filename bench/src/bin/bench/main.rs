@@ -66,5 +66,5 @@ fn main() {
     print(&tables::workloads(workloads));
     print(&tables::growth(growth));
     print(&tables::ordering(ordering));
-    print(&tables::summary(workloads, growth));
+    print(&tables::summary(workloads, growth, ordering));
 }

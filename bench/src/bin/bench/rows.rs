@@ -18,7 +18,7 @@ const BATCH: usize = 64;
 pub struct Row {
     pub name: &'static str,
     /// What else tells the row from others.
-    pub detail: String,
+    detail: String,
     pub events: usize,
     pub clean: bool,
     call: Call,
@@ -44,6 +44,10 @@ impl Row {
             best: vec![[f64::INFINITY; PEERS.len()]; traces.len()],
             traces,
         }
+    }
+
+    pub fn label(&self) -> String {
+        format!("{}{}", self.name, self.detail)
     }
 
     pub fn judged(&self) -> bool {

@@ -4,12 +4,11 @@ use crate::peers::{Peer, PEERS};
 use crate::rows::{Row, SIZES};
 use racejudge_bench::trace::MAX_EVENTS;
 
-/// Target: the judge's time over hand C's is at most this on every workload.
+/// Targets, each at most this: the time over hand C's, on every workload and for the ordering call;
+/// over FastTrack's, on every clean workload of full size; an event's in the longest trace over
+/// one's in the shortest, which would be 32 if growth were quadratic.
 const OVER_HAND: f64 = 1.25;
-/// Target: over FastTrack's it is below this on every clean workload of full size.
 const OVER_FASTTRACK: f64 = 1.0;
-/// Target: an event takes at most this many times as long in the longest trace as in the shortest.
-/// Quadratic growth would be 32 times.
 const GROWTH: f64 = 2.0;
 
 /// A row of the table for each row, a column for each peer, then the ratios to some of them.
@@ -24,7 +23,7 @@ fn table(
     lines[0].extend(peers.iter().map(|peer| peer.name().to_string()));
     lines[0].extend(ratios.iter().map(|peer| format!("judge / {}", peer.name())));
     for row in rows {
-        let mut line = vec![format!("{}{}", row.name, row.detail)];
+        let mut line = vec![row.label()];
         line.extend(peers.iter().map(|&peer| two_places(time(row, peer))));
         line.extend(ratios.iter().map(|&peer| two_places(row.ratio(peer))));
         lines.push(line);
@@ -72,35 +71,39 @@ pub fn ordering(rows: &[Row]) -> String {
 }
 
 /// One line that tells whether the targets are met.
-pub fn summary(workloads: &[Row], growth: &[Row]) -> String {
+pub fn summary(workloads: &[Row], growth: &[Row], ordering: &[Row]) -> String {
     let clean = workloads.iter().filter(|row| row.clean && row.events == MAX_EVENTS);
-    let (hand, slowest) = worst(workloads.iter(), Peer::Hand);
-    let (fasttrack, nearest) = worst(clean, Peer::FastTrack);
-    let mut steepest: f64 = 0.0;
-    let mut grown = Vec::new();
-    for rows in growth.chunks(SIZES.len()) {
-        let ends = [&rows[0], &rows[SIZES.len() - 1]].map(|row| row.nanos_an_event(Peer::Judge));
-        steepest = steepest.max(ends[1] / ends[0]);
-        grown.push(format!("{} {:.1} to {:.1}", rows[0].name, ends[0], ends[1]));
-    }
-    format!(
-        "\nSummary: judge / hand C at most {hand:.3} ({slowest}), target {OVER_HAND}: {}; \
-         judge / FastTrack at most {fasttrack:.3} ({nearest}) where clean, target below \
-         {OVER_FASTTRACK}: {}; nanoseconds an event from {} to {} events {}, target at most \
-         {GROWTH} times: {}\n",
-        verdict(hand <= OVER_HAND),
-        verdict(fasttrack < OVER_FASTTRACK),
-        SIZES[0],
-        MAX_EVENTS,
-        grown.join(", "),
-        verdict(steepest <= GROWTH),
-    )
+    let parts = [
+        worst("judge / hand C", workloads.iter(), Peer::Hand, OVER_HAND),
+        worst("ordering call / hand C", ordering.iter(), Peer::Hand, OVER_HAND),
+        worst("judge / FastTrack where clean", clean, Peer::FastTrack, OVER_FASTTRACK),
+        steepest(growth),
+    ];
+    format!("\nSummary: {}\n", parts.join("; "))
 }
 
 /// The greatest ratio to a peer, and its row.
-fn worst<'a>(rows: impl Iterator<Item = &'a Row>, peer: Peer) -> (f64, &'static str) {
-    let ratios = rows.map(|row| (row.ratio(peer), row.name));
-    ratios.max_by(|a, b| a.0.total_cmp(&b.0)).expect("there are rows")
+fn worst<'a>(name: &str, rows: impl Iterator<Item = &'a Row>, peer: Peer, target: f64) -> String {
+    let ratios = rows.map(|row| (row.ratio(peer), row.label()));
+    let (ratio, label) = ratios.max_by(|a, b| a.0.total_cmp(&b.0)).expect("there are rows");
+    format!("{name} at most {ratio:.3} ({label}), target {target}: {}", verdict(ratio <= target))
+}
+
+/// What an event takes in the shortest and in the longest trace.
+fn steepest(growth: &[Row]) -> String {
+    let mut steepest: f64 = 0.0;
+    let mut ends = Vec::new();
+    for rows in growth.chunks(SIZES.len()) {
+        let [first, last] =
+            [&rows[0], &rows[SIZES.len() - 1]].map(|r| r.nanos_an_event(Peer::Judge));
+        steepest = steepest.max(last / first);
+        ends.push(format!("{} {first:.1} to {last:.1}", rows[0].name));
+    }
+    let (met, ends) = (verdict(steepest <= GROWTH), ends.join(", "));
+    format!(
+        "ns an event from {} to {MAX_EVENTS} events {ends}, target {GROWTH} times: {met}",
+        SIZES[0]
+    )
 }
 
 fn verdict(met: bool) -> &'static str {
