@@ -13,9 +13,9 @@ use Rattle.trace.proofs.Demand1.{ordering-demand-1}
 use Rattle.trace.proofs.OrderingCall.{ordering-call-demand}
 use Rattle.forest.specs.Cells.{zeroed}
 use Rattle.forest.proofs.Cells.{zeroed-cleared}
-use Rattle.judge.specs.Walks.{OrderSays}
+use Rattle.order.specs.Asks.{OrderSays}
 use Rattle.judge.specs.Entry.{rowOf, orderingGives}
-use Rattle.judge.proofs.Rests.{rest-zeroed}
+use Rattle.line.proofs.Rests.{rest-zeroed}
 use Rattle.judge.proofs.Judging.{rows, sizes-fail, sizes-pass}
 
 module _ (kinds tasks operands workspace : List ℕ) (p q : ℕ) where

@@ -26,12 +26,13 @@ use Rattle.line.specs.Cells.{depths, startedIn}
 use Rattle.trace.proofs.Run.{start}
 use Rattle.line.proofs.Moves.{start-cells}
 use Rattle.line.proofs.Locations.{locations-start}
-use Rattle.judge.specs.declared.events.Found.{Found}
-use Rattle.judge.specs.State.{Rest, JudgeAt, RaceAt}
-use Rattle.judge.specs.Turns.{FoundSays}
-use Rattle.judge.specs.Reports.{Reported}
+use Rattle.scan.specs.declared.Found.{Found}
+use Rattle.line.specs.Held.{Rest}
+use Rattle.scan.specs.State.{JudgeAt, RaceAt}
+use Rattle.scan.specs.Turns.{FoundSays}
+use Rattle.report.specs.Reports.{Reported}
 use Rattle.judge.specs.Entry.{rowOf, judgeGives, Examined}
-use Rattle.judge.proofs.Rests.{rest-refl, rest-trans, rest-started, rest-zeroed, sized-rest}
+use Rattle.line.proofs.Rests.{rest-refl, rest-trans, rest-started, rest-zeroed, sized-rest}
 
 -- ---- rows 1 to 4
 

@@ -9,7 +9,7 @@ use Rattle.trace.specs.Line.{Checked, passes, fails, haltOperand}
 use Rattle.trace.specs.Outcome.{Outcome, OrderingOutcome, judgement, firstOrder, secondOrder}
 use Rattle.trace.specs.Answers.{judgeReply, orderingReply}
 use Rattle.trace.specs.Demands.{graphOf}
-use Rattle.judge.specs.State.{Rest}
+use Rattle.line.specs.Held.{Rest}
 
 -- The row that is met, or 0.
 unfoldable pub rowOf : Checked ℕ → ℕ

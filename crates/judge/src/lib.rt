@@ -9,17 +9,11 @@ ghost use Rattle.trace.specs.Answers.{judgeReply, orderingReply};
 ghost use Rattle.trace.specs.Demands.{JudgeDemand1, JudgeDemand2, JudgeDemand3, OrderingDemand1, OrderingCallDemand};
 ghost use Rattle.trace.proofs.Sizes.{Sized, Roomy};
 ghost use Rattle.judge.specs.Entry.{rowOf, judgeGives, orderingGives, Examined};
-use events::Found;
 use line::Line;
+use scan::Found;
 use trace::Answer;
 use trace::Ordering;
 use trace::Refusal;
-
-mod accesses; // the access loop
-mod events; // the main loop
-mod order; // the ordering call
-mod report; // what a race leaves
-mod rules; // the line rules alone
 
 // "At most 32,768 events."
 pub const MAX_EVENTS: usize = 32768;
@@ -74,7 +68,7 @@ fn examine(
     ensures { λ r. ⌜ Examined (traceOf (now (kinds .entry)) (now (tasks .entry)) (now (operands .entry))) (length (now (kinds .entry))) r (now (ws .entry)) (now (ws .exit)) (now (first .entry)) (now (first .exit)) (now (second .entry)) (now (second .exit)) ⌝ }
 {
     let line = Line::start(ws);
-    let found = events::run(kinds, tasks, operands, ws, line);
+    let found = scan::run(kinds, tasks, operands, ws, line);
     match found {
         Found::Clean => Answer::Clean,
         Found::Refused(number, position) => Answer::Refused(Refusal { number, position }),

@@ -6,17 +6,17 @@ use mathlib.Core.List.{List, [], _∷_}
 use mathlib.Core.Logic.{inl, inr}
 use native.Mathlib.Omega.{arith}
 use lib.ListN.{length, getD}
-use Rattle.trace.specs.Trace.{TASKS, WORKSPACE-CELLS}
+use Rattle.trace.specs.Trace.{Trace, TASKS, WORKSPACE-CELLS}
 use Rattle.trace.specs.Line.{haltOperand}
 use Rattle.trace.proofs.Tests.{either}
 use Rattle.trace.proofs.Stacks.{In, in-eq}
-use Rattle.trace.proofs.Run.{stacks-length, in-line-small, distinct-stacks, groups}
+use Rattle.trace.proofs.Run.{used-numbers, stacks-length, in-line-small, distinct-stacks, groups}
 use Rattle.forest.specs.Forest.{topOf, Unitable, UnionResult}
 use Rattle.forest.proofs.Tops.{top-is-top}
 use Rattle.forest.proofs.United.{stays-one, united-length}
 use Rattle.line.specs.declared.Line.{Line}
 use Rattle.line.specs.Cells.{IN-LEFT, LEFT, ACTIVE, runningIn, nearestIn}
-use Rattle.line.specs.Held.{StackAt, Sound}
+use Rattle.line.specs.Held.{StackAt, LineAt, Sound}
 
 -- The last cell of a stack that is not empty holds one of its tasks.
 top-in-stack : (c : List ℕ) (base depth : ℕ) (l : List ℕ) → StackAt c base l → depth ≡ length l → 0 < depth →
@@ -75,3 +75,7 @@ union-flag {c} {a = a} {b = b} s la lb u =
     let same = ap length (u .cells) ∙ united-length c a b in
     let top = u .result in
     either (stays-one c a b) (λ e. omega arith) (λ e. omega arith)
+
+-- The task of an event has a task's number.
+pub task-small : {tr : Trace} {n : ℕ} {c : List ℕ} {line : Line} → LineAt tr n c line → (p : ℕ) → p < n → tr .task p < TASKS
+task-small {tr} at p h = let u = used-numbers haltOperand tr (at .run) in u .small (tr .task p) (u .of-task p h)

@@ -1,4 +1,5 @@
 -- The laws that tie the cells to the run of a trace, and what the functions of this crate need.
+pub mod Rests
 pub mod Bounds
 pub mod Rows
 pub mod Moves

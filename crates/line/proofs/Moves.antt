@@ -378,3 +378,10 @@ module _ (c : List ℕ) (line : Line) where
         long = rw length-set (united-length c a b);
         same = λ k h. getD-set-other (united c a b) (IN-LEFT + stays c a b) k 0 0 (omega arith) ∙ united-beyond c a b small-a small-b k (omega arith);
       }
+
+-- The running task is the first of the active ones.
+pub running-first :
+    {c : List ℕ} {line : Line} {left used : List ℕ} {group : ℕ → ℕ} {x : ℕ} (active : List ℕ) → LineCells c line left active used group
+    → (line .active ≡ 0 → ⊥) → x ≡ runningIn c line → (paused : List ℕ) × (active ≡ x ∷ paused)
+running-first [] l some e = absurd (some (l .active-depth))
+running-first (y ∷ paused) l some e = (paused, ap (λ (z : ℕ). z ∷ paused) (sym (e ∙ running-is l)))

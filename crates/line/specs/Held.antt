@@ -20,6 +20,11 @@ pub record SameBeyond (entry exit : List ℕ) : Type 0 where
   pub long : length exit ≡ length entry
   pub same : (i : ℕ) → WORKSPACE-CELLS ≤ i → getD exit i 0 ≡ getD entry i 0
 
+-- Cells past the first 12,288 and one for each of n events are as they were, and there are as many.
+pub record Rest (n : ℕ) (entry exit : List ℕ) : Type 0 where
+  pub long : length exit ≡ length entry
+  pub same : (i : ℕ) → WORKSPACE-CELLS + n ≤ i → getD exit i 0 ≡ getD entry i 0
+
 -- A stack stands in the cells from base on, its top last.
 abbrev pub StackAt : List ℕ → ℕ → List ℕ → Type 0
 StackAt c base [] = Unit {0}

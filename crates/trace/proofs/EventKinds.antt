@@ -1,5 +1,5 @@
 -- The kinds of events, told apart. Every proof that asks whether an event is an access asks by `isAccess` and uses these laws. Assumes nothing.
-use Prim.Native.Nat.{ℕ}
+use Prim.Native.Nat.{ℕ, _<_}
 use mathlib.Core.Path.{_≡_, refl, sym, ap, _∙_}
 use mathlib.Core.Bool.{true, false, true≢false}
 use mathlib.Core.Logic.{_≢_, inl, inr}
@@ -7,7 +7,7 @@ use native.Mathlib.Omega.{arith}
 use lib.Dec.{eqb}
 use borrow.Author.Tests.{eqb-false, leb-true}
 use Rattle.trace.specs.Trace.{FORK, JOIN, HALT, READ, WRITE, isKind, isAccess}
-use Rattle.trace.proofs.Tests.{either, tests-fails, test-or, test-eq}
+use Rattle.trace.proofs.Tests.{either, last-or-below, tests-fails, test-or, test-eq}
 
 -- An access is no kind that is no access.
 access-apart : (k other : ℕ) → isAccess k ≡ true → isAccess other ≡ false → k ≢ other
@@ -25,6 +25,16 @@ access-not-join k a = access-apart k JOIN a refl
 pub access-not-halt : (k : ℕ) → isAccess k ≡ true → k ≢ HALT
 unfolding isAccess
 access-not-halt k a = access-apart k HALT a refl
+
+-- In numbers, accesses are the kinds below 2: the tests of the code.
+pub access-below-two : (k : ℕ) → isAccess k ≡ true → k < 2
+unfolding isAccess
+access-below-two k a = either (test-or (eqb k READ) (eqb k WRITE) (test-eq k READ) (test-eq k WRITE) .0 a) (λ e. omega arith) (λ e. omega arith)
+
+pub below-two-access : (k : ℕ) → k < 2 → isAccess k ≡ true
+unfolding isAccess
+below-two-access k h =
+    test-or (eqb k READ) (eqb k WRITE) (test-eq k READ) (test-eq k WRITE) .1 (either (last-or-below k 1 h) (λ e. inr e) (λ l. inl (omega arith)))
 
 -- The document names every access.
 pub access-is-kind : (k : ℕ) → isAccess k ≡ true → isKind k ≡ true

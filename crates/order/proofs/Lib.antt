@@ -1,0 +1,3 @@
+-- The laws of the ordering call.
+pub mod OrderingTest
+pub mod OrderingAnswer

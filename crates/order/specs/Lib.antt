@@ -1,0 +1,2 @@
+-- What the ordering call answers.
+pub mod Asks

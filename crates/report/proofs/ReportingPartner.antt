@@ -1,0 +1,56 @@
+-- The search for the partner: what the code's test of one event says. Assumes nothing.
+use Prim.Native.Nat.{ℕ, _+_, _<_, _≤_}
+use mathlib.Core.Path.{_≡_, sym}
+use mathlib.Core.Bool.{Bool, true, false, not}
+use mathlib.Core.List.{List}
+use mathlib.Core.Logic.{_⊎_, inl, inr, _≢_}
+use native.Mathlib.Omega.{arith}
+use lib.Dec.{eqb}
+use lib.ListN.{getD}
+use borrow.Author.Tests.{eq-eqb, ne-eqb}
+use Rattle.trace.specs.Trace.{traceOf, READ, WRITE, isAccess}
+use Rattle.trace.proofs.Tests.{either, same-or-not, Tests, tests-map, tests-false, tests-unique, test-eq, test-and, test-not}
+use Rattle.trace.proofs.Conflicts.{test-access, test-conflicting}
+use Rattle.report.specs.Reports.{LIVE, kindsConflict, unorderedIn}
+
+-- ---- which kinds conflict
+
+-- This part alone rests on which kinds are accesses and which of them conflict.
+module _ (j k : ℕ) where
+  test-kinds : Tests (kindsConflict j k) (((j ≡ READ) ⊎ (j ≡ WRITE)) × ((j ≡ WRITE) ⊎ (k ≡ WRITE)))
+  unfolding kindsConflict
+  test-kinds = test-and _ _ (test-access j) (test-conflicting j k)
+
+  -- The tests of the code, in their order.
+  pub no-access : 1 < j → false ≡ kindsConflict j k
+  no-access h = sym (tests-false _ test-kinds (λ f. either (f .0) (λ e. omega arith) (λ e. omega arith)))
+
+  pub one-writes : j ≤ 1 → isAccess k ≡ true → not (eqb (j + k) 0) ≡ kindsConflict j k
+  one-writes low access =
+      tests-unique _ _
+      (tests-map
+      (λ h.
+      either (same-or-not j WRITE) (λ w. (inr w, inl w))
+      (λ o. (inl (omega arith), either (test-access k .0 access) (λ r. absurd (h (omega arith))) (λ w. inr w))))
+      (λ f e. either (f .1) (λ w. omega arith) (λ w. omega arith))
+      (test-not _ (test-eq (j + k) 0)))
+      test-kinds
+
+-- ---- the test of one event, in the order of the code
+
+module _ (kinds tasks operands c : List ℕ) (t p : ℕ) where
+  abbrev unordered : Bool
+  unordered = unorderedIn (traceOf kinds tasks operands) c t p
+
+  pub other-location : getD operands p 0 ≢ getD operands t 0 → false ≡ unordered
+  unfolding unorderedIn traceOf
+  other-location h = rw (ne-eqb (getD operands p 0) (getD operands t 0) h)
+
+  module _ (same : getD operands p 0 ≡ getD operands t 0) (conflict : Bool) (told : conflict ≡ kindsConflict (getD kinds p 0) (getD kinds t 0)) where
+    pub no-conflict : conflict ≡ false → false ≡ unordered
+    unfolding unorderedIn traceOf
+    no-conflict e = rw (eq-eqb (getD operands p 0) (getD operands t 0) same, ← told, e)
+
+    pub is-live : (live : ℕ) → live ≡ getD c (LIVE + getD tasks p 0) 0 → conflict ≡ true → eqb live 0 ≡ unordered
+    unfolding unorderedIn traceOf
+    is-live live read e = rw (eq-eqb (getD operands p 0) (getD operands t 0) same, ← told, e, ← read)

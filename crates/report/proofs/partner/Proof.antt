@@ -1,0 +1,53 @@
+-- `judge::report::partner` meets its contract: no event before s conflicts with t and does not reach it. Assumes nothing.
+use Prim.Native.Nat.{ℕ, _≤_, _<_, _-_}
+use mathlib.Core.Path.{_≡_, sym, _∙_}
+use mathlib.Core.Bool.{false}
+use native.Mathlib.Omega.{arith}
+use borrow.Author.Needs.{needs}
+use borrow.Author.Count.{below-more}
+use Rattle.trace.specs.Trace.{traceOf}
+use Rattle.report.specs.Reports.{unorderedIn}
+use Rattle.report.proofs.partner.Statement.{statement}
+use Rattle.report.proofs.partner.Tie as tie
+
+abbrev Inv-loop : tie.InvT-loop
+Inv-loop kinds tasks operands ws t s₀ s = (s ≤ t) × ((p : ℕ) → p < s → unorderedIn (traceOf kinds tasks operands) ws t p ≡ false)
+
+abbrev μ-loop : tie.MeasureT-loop
+μ-loop kinds tasks operands ws t s₀ s = t - s
+
+loop-holds : tie.Need-loop-holds Inv-loop μ-loop
+loop-holds c = (omega arith, λ p h. absurd (omega arith))
+
+returns : tie.Need-returns Inv-loop μ-loop
+returns c =
+    record {
+      within = search needs;
+      passed = λ h. sym (c .before .is-partner .ensures) ∙ c .if1 .taken;
+      none-before = c .before .before .before .loop .inv .1;
+    }
+
+loop-again : tie.Need-loop-again Inv-loop μ-loop
+loop-again c = (
+  search needs,
+  below-more _ (c .before .before .before .loop .s) (c .before .before .before .loop .inv .1) (sym (c .before .is-partner .ensures) ∙ c .if1 .left),
+)
+
+returns-2 : tie.Need-returns-2 Inv-loop μ-loop
+returns-2 c =
+    let inv = c .before .loop .inv in
+    record { within = inv .0; passed = λ h. absurd (search needs); none-before = inv .1 }
+
+pub partner-spec : {M : Type 1} → statement M
+partner-spec =
+    tie.close
+    (tie.spec
+    Inv-loop
+    μ-loop
+    loop-holds
+    (λ c κs. search needs)
+    returns
+    (λ c. search needs)
+    (λ c. search needs)
+    loop-again
+    returns-2)

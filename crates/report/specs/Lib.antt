@@ -1,0 +1,2 @@
+-- What a race leaves.
+pub mod Reports

@@ -1,0 +1,2 @@
+-- What the line rules say of a part of a trace.
+pub mod Walks

@@ -1,0 +1,3 @@
+-- The laws of the access loop and of the main loop.
+pub mod Skipping
+pub mod Turning

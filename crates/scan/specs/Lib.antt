@@ -1,0 +1,3 @@
+-- What the main loop's contracts cite, in the order in which to read it.
+pub mod State
+pub mod Turns
