@@ -1,4 +1,4 @@
--- `judge::order::are_positions` meets its contract. Assumes nothing.
+-- `order::are_positions` meets its contract. Assumes nothing.
 use borrow.Author.Tests.{lt-ltb, le-ltb}
 use Rattle.order.proofs.are_positions.Statement.{statement}
 use Rattle.order.proofs.are_positions.Tie as tie

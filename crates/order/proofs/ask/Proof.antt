@@ -1,4 +1,4 @@
--- `judge::order::ask` meets its contract. Assumes nothing.
+-- `order::ask` meets its contract. Assumes nothing.
 use borrow.Author.Needs.{needs}
 use Rattle.trace.specs.Trace.{traceOf}
 use Rattle.order.proofs.ask.Statement.{statement}

@@ -1,4 +1,4 @@
--- `judge::order::ask_join` meets its contract: the flag after the step tells. Assumes nothing.
+-- `order::ask_join` meets its contract: the flag after the step tells. Assumes nothing.
 use native.Mathlib.Omega.{arith}
 use borrow.Author.Needs.{needs}
 use Rattle.trace.specs.Trace.{traceOf}

@@ -1,4 +1,4 @@
--- `judge::order::ask_other` meets its contract: the flag before the step tells. Assumes nothing.
+-- `order::ask_other` meets its contract: the flag before the step tells. Assumes nothing.
 use borrow.Author.Needs.{needs}
 use Rattle.trace.specs.Trace.{traceOf}
 use Rattle.order.proofs.OrderingTest.{is-left-asks, ask-before, ask-broken}

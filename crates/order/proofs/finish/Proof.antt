@@ -1,4 +1,4 @@
--- `judge::order::finish` meets its contract. Assumes nothing.
+-- `order::finish` meets its contract. Assumes nothing.
 use mathlib.Core.Path.{refl}
 use borrow.Author.Needs.{needs}
 use Rattle.rules.proofs.Walking.{walk-held, walk-stopped}

@@ -1,4 +1,4 @@
--- `judge::order::order` meets its contract. Assumes nothing.
+-- `order::order` meets its contract. Assumes nothing.
 use native.Mathlib.Omega.{arith}
 use borrow.Author.Needs.{needs}
 use denote.Ref.{now}

@@ -1,4 +1,4 @@
--- `judge::order::order_all` meets its contract. Assumes nothing.
+-- `order::order_all` meets its contract. Assumes nothing.
 use borrow.Author.Needs.{needs}
 use borrow.Author.Tests.{not-true, not-false}
 use Rattle.order.proofs.OrderingAnswer.{positions-below, answered-back, says-reach, says-unknown}

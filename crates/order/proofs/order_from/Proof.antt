@@ -1,4 +1,4 @@
--- `judge::order::order_from` meets its contract. Assumes nothing.
+-- `order::order_from` meets its contract. Assumes nothing.
 use native.Mathlib.Numerals.{add-one}
 use borrow.Author.Needs.{needs}
 use Rattle.line.proofs.Rests.{sized-same}

@@ -1,4 +1,4 @@
--- `judge::order::order_later` meets its contract. Assumes nothing.
+-- `order::order_later` meets its contract. Assumes nothing.
 use native.Mathlib.Omega.{arith}
 use borrow.Author.Needs.{needs}
 use Rattle.line.proofs.Rests.{sized-same}

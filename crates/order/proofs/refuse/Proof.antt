@@ -1,4 +1,4 @@
--- `judge::order::refuse` meets its contract. Assumes nothing.
+-- `order::refuse` meets its contract. Assumes nothing.
 use mathlib.Core.Path.{refl}
 use Rattle.trace.specs.Answers.{orderingReply}
 use Rattle.order.proofs.refuse.Statement.{statement}

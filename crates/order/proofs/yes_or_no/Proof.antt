@@ -1,4 +1,4 @@
--- `judge::order::yes_or_no` meets its contract. Assumes nothing.
+-- `order::yes_or_no` meets its contract. Assumes nothing.
 use mathlib.Core.Path.{refl}
 use Rattle.trace.specs.Answers.{orderingReply}
 use Rattle.order.proofs.yes_or_no.Statement.{statement}

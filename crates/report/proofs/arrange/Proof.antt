@@ -1,4 +1,4 @@
--- `judge::report::arrange` meets its contract: two runs of stores, with the pair between them, and as many cells as there are events up to t.
+-- `report::arrange` meets its contract: two runs of stores, with the pair between them, and as many cells as there are events up to t.
 -- Assumes nothing.
 use Prim.Native.Nat.{suc, _+_}
 use mathlib.Core.Path.{_≡_, _∙_}

@@ -1,4 +1,4 @@
--- `judge::report::conflicts` meets its contract. Assumes nothing.
+-- `report::conflicts` meets its contract. Assumes nothing.
 use native.Mathlib.Omega.{arith}
 use Rattle.trace.proofs.EventKinds.{access-below-two}
 use Rattle.report.proofs.ReportingPartner.{no-access, one-writes}

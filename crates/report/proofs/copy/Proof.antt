@@ -1,4 +1,4 @@
--- `judge::report::copy` meets its contract: before each turn the first i cells are copied. Assumes nothing.
+-- `report::copy` meets its contract: before each turn the first i cells are copied. Assumes nothing.
 use Prim.Native.Nat.{ℕ, _+_, _≤_, _-_}
 use mathlib.Core.Path.{_≡_, refl, sym, ap, ap₂, _∙_}
 use mathlib.Core.List.{_++_}

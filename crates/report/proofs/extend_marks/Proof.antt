@@ -1,4 +1,4 @@
--- `judge::report::extend_marks` meets its contract. Assumes nothing.
+-- `report::extend_marks` meets its contract. Assumes nothing.
 use native.Mathlib.Omega.{arith}
 use borrow.Author.Needs.{needs}
 use Rattle.trace.specs.Trace.{traceOf}

@@ -1,4 +1,4 @@
--- `judge::report::find_pair` meets its contract. Assumes nothing.
+-- `report::find_pair` meets its contract. Assumes nothing.
 use native.Mathlib.Omega.{arith}
 use borrow.Author.Needs.{needs}
 use Rattle.trace.specs.Trace.{traceOf}

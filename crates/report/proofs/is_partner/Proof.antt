@@ -1,4 +1,4 @@
--- `judge::report::is_partner` meets its contract. Assumes nothing.
+-- `report::is_partner` meets its contract. Assumes nothing.
 use native.Mathlib.Omega.{arith}
 use borrow.Author.Needs.{needs}
 use borrow.Author.Tests.{not-true, not-false}

@@ -1,4 +1,4 @@
--- `judge::report::look` meets its contract: one store, by the flag at the top of the task's tree. Assumes nothing.
+-- `report::look` meets its contract: one store, by the flag at the top of the task's tree. Assumes nothing.
 use borrow.Author.Needs.{needs}
 use Rattle.report.proofs.ReportingCells.{stored-left, stored-live}
 use Rattle.report.proofs.look.Statement.{statement}

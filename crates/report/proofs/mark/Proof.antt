@@ -1,4 +1,4 @@
--- `judge::report::mark` meets its contract: before each turn the marks are filled below the event, and the table of live tasks is as it was. Assumes nothing.
+-- `report::mark` meets its contract: before each turn the marks are filled below the event, and the table of live tasks is as it was. Assumes nothing.
 use Prim.Native.Nat.{_+_, _≤_, _<_, _-_}
 use mathlib.Core.Path.{_≡_, _∙_}
 use mathlib.Core.Logic.{inl}

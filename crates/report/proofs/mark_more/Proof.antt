@@ -1,4 +1,4 @@
--- `judge::report::mark_more` meets its contract: before each turn the marks below the event are those that it leaves. Assumes nothing.
+-- `report::mark_more` meets its contract: before each turn the marks below the event are those that it leaves. Assumes nothing.
 use Prim.Native.Nat.{_+_, _≤_, _<_, _-_}
 use mathlib.Core.Path.{_≡_, _∙_}
 use mathlib.Core.Logic.{inl}

@@ -1,4 +1,4 @@
--- `judge::report::orders` meets its contract: the second order is a copy of the first, with the pair stored the other way round. Assumes nothing.
+-- `report::orders` meets its contract: the second order is a copy of the first, with the pair stored the other way round. Assumes nothing.
 use Prim.Native.Nat.{_+_, _≤_}
 use native.Mathlib.Omega.{arith}
 use borrow.Author.Needs.{needs}

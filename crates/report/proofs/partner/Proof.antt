@@ -1,4 +1,4 @@
--- `judge::report::partner` meets its contract: no event before s conflicts with t and does not reach it. Assumes nothing.
+-- `report::partner` meets its contract: no event before s conflicts with t and does not reach it. Assumes nothing.
 use Prim.Native.Nat.{ℕ, _≤_, _<_, _-_}
 use mathlib.Core.Path.{_≡_, sym, _∙_}
 use mathlib.Core.Bool.{false}

@@ -1,4 +1,4 @@
--- `judge::report::report` meets its contract: the marks that the two passes leave are those of D. Assumes nothing.
+-- `report::report` meets its contract: the marks that the two passes leave are those of D. Assumes nothing.
 use native.Mathlib.Omega.{arith}
 use borrow.Author.Needs.{needs}
 use lib.ListN.{length-set}

@@ -1,4 +1,4 @@
--- `judge::report::rewind` meets its contract: the walk starts at the line before event 0, and the rules are kept before s. Assumes nothing.
+-- `report::rewind` meets its contract: the walk starts at the line before event 0, and the rules are kept before s. Assumes nothing.
 use native.Mathlib.Omega.{arith}
 use borrow.Author.Needs.{needs}
 use Rattle.line.proofs.Rests.{sized-same}

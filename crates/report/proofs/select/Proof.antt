@@ -1,4 +1,4 @@
--- `judge::report::select` meets its contract: before each turn the marked positions below p are written, and `next` is past them. Assumes nothing.
+-- `report::select` meets its contract: before each turn the marked positions below p are written, and `next` is past them. Assumes nothing.
 use Prim.Native.Nat.{_+_, _-_, _≤_, _<_}
 use mathlib.Core.Path.{_≡_, refl, ap, _∙_}
 use native.Mathlib.Omega.{arith}

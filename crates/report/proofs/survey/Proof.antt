@@ -1,4 +1,4 @@
--- `judge::report::survey` meets its contract: before each turn the table is filled below the task, and the forest is as it was. Assumes nothing.
+-- `report::survey` meets its contract: before each turn the table is filled below the task, and the forest is as it was. Assumes nothing.
 use Prim.Native.Nat.{_+_, _≤_, _<_, _-_}
 use mathlib.Core.Path.{_≡_}
 use native.Mathlib.Omega.{arith}

@@ -1,4 +1,4 @@
--- `judge::rules::advance` meets its contract: the law of one event. Assumes nothing.
+-- `rules::advance` meets its contract: the law of one event. Assumes nothing.
 use borrow.Author.Needs.{needs}
 use Rattle.line.proofs.EventLaw.{movable}
 use Rattle.rules.proofs.Walking.{says-refused, says-ok}

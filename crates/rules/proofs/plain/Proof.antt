@@ -1,4 +1,4 @@
--- `judge::rules::plain` meets its contract: the events passed are accesses of x. Assumes nothing.
+-- `rules::plain` meets its contract: the events passed are accesses of x. Assumes nothing.
 use Prim.Native.Nat.{_-_}
 use borrow.Author.Needs.{needs}
 use Rattle.trace.specs.Trace.{traceOf}

@@ -1,4 +1,4 @@
--- `judge::rules::skip` meets its contract. Assumes nothing.
+-- `rules::skip` meets its contract. Assumes nothing.
 use borrow.Author.Needs.{needs}
 use Rattle.rules.proofs.Walking.{line-kept}
 use Rattle.rules.proofs.skip.Statement.{statement}

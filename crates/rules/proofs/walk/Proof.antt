@@ -1,4 +1,4 @@
--- `judge::rules::walk` meets its contract: before each turn the cells hold the line before event i. Assumes nothing.
+-- `rules::walk` meets its contract: before each turn the cells hold the line before event i. Assumes nothing.
 use Prim.Native.Nat.{_-_}
 use borrow.Author.Needs.{needs}
 use Rattle.trace.specs.Trace.{traceOf}

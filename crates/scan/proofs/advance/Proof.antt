@@ -1,4 +1,4 @@
--- `judge::events::advance` meets its contract. Assumes nothing.
+-- `scan::advance` meets its contract. Assumes nothing.
 use borrow.Author.Needs.{needs}
 use Rattle.scan.proofs.Turning.{sound-at, advance-none, advance-below, advance-runs, advance-skips}
 use Rattle.scan.proofs.advance.Statement.{statement}

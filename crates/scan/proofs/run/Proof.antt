@@ -1,4 +1,4 @@
--- `judge::events::run` meets its contract. The loop's invariant is `RunLoop`; what is left of the events falls. Assumes nothing.
+-- `scan::run` meets its contract. The loop's invariant is `RunLoop`; what is left of the events falls. Assumes nothing.
 use Prim.Native.Nat.{_-_}
 use native.Mathlib.Omega.{arith}
 use borrow.Author.Needs.{needs}

@@ -1,4 +1,4 @@
--- `judge::events::turn` meets its contract. Assumes nothing.
+-- `scan::turn` meets its contract. Assumes nothing.
 use borrow.Author.Needs.{needs}
 use Rattle.line.proofs.EventLaw.{movable}
 use Rattle.scan.proofs.Turning.{says-broken, says-racing, says-next}

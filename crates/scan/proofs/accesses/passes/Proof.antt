@@ -1,4 +1,4 @@
--- `judge::accesses::passes` meets its contract. Assumes nothing.
+-- `scan::accesses::passes` meets its contract. Assumes nothing.
 use borrow.Author.Needs.{needs}
 use lib.ListN.{length}
 use Rattle.scan.proofs.Skipping.{stops-kind, stops-task, stops-location, access-asks, access-answers}

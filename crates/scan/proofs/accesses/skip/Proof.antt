@@ -1,4 +1,4 @@
--- `judge::accesses::skip` meets its contract. The loop's invariant is `SkipLoop`; what is left of the events falls. Assumes nothing.
+-- `scan::accesses::skip` meets its contract. The loop's invariant is `SkipLoop`; what is left of the events falls. Assumes nothing.
 use Prim.Native.Nat.{_-_}
 use borrow.Author.Needs.{needs}
 use borrow.Author.Tests.{not-true, not-false}
