@@ -1,26 +1,17 @@
-// One call of the judge beside one of the slow judge. Each lent buffer has two halves that begin alike: the first is lent to the judge, the second to the
-// slow one, and afterwards the halves must be alike again, cells that were not lent included.
-use crate::cells::cell;
-use crate::cells::get;
-use crate::cells::least;
-use crate::cells::more;
-use crate::cells::plus;
-use crate::cells::put;
-use crate::slow;
+// One call of the judge, or of the ordering call, in dirty buffers: its answer and all cells that it was lent, and some behind them, are held to what the
+// slow one says.
+use cells::get;
+use cells::get_word;
+use cells::least;
+use cells::minus;
+use cells::more;
+use cells::plus;
+use cells::put;
+use samples::events::lay;
+use slow::Sizes;
 use trace::Answer;
 use trace::Ordering;
 use trace::Refusal;
-ghost use Prim.Native.Nat.{_≤_};
-
-// How many cells of each slice are lent.
-pub struct Sizes {
-    pub kinds: usize,
-    pub tasks: usize,
-    pub operands: usize,
-    pub ws: usize,
-    pub first: usize,
-    pub second: usize,
-}
 
 // An answer in numbers. The case is CLEAN, RACE or REFUSED + number for the judge, and YES, NO or REFUSED + number for the ordering call.
 pub struct Reply {
@@ -39,45 +30,32 @@ pub const NO: usize = 1;
 
 pub const REFUSED: usize = 2;
 
-// The two disagree.
+// Not yet known: the slow judge is to say it.
+pub const UNTOLD: usize = 62;
+
+// The answer, or a cell, is not as it must be.
 pub const MISMATCH: usize = 63;
 
+pub fn make_reply(case: usize, a: usize, b: usize) -> Reply {
+    Reply { case, a, b }
+}
+
 fn reply_of_refusal(refusal: Refusal) -> Reply {
-    Reply {
-        case: more(more(refusal.number)),
-        a: refusal.position,
-        b: 0,
-    }
+    make_reply(plus(REFUSED, refusal.number), refusal.position, 0)
 }
 
 fn reply_of_answer(answer: Answer) -> Reply {
     match answer {
-        Answer::Clean => Reply {
-            case: CLEAN,
-            a: 0,
-            b: 0,
-        },
-        Answer::Race(s, t) => Reply {
-            case: RACE,
-            a: s,
-            b: t,
-        },
+        Answer::Clean => make_reply(CLEAN, 0, 0),
+        Answer::Race(s, t) => make_reply(RACE, s, t),
         Answer::Refused(refusal) => reply_of_refusal(refusal),
     }
 }
 
 fn reply_of_ordering(ordering: Ordering) -> Reply {
     match ordering {
-        Ordering::Yes => Reply {
-            case: YES,
-            a: 0,
-            b: 0,
-        },
-        Ordering::No => Reply {
-            case: NO,
-            a: 0,
-            b: 0,
-        },
+        Ordering::Yes => make_reply(YES, 0, 0),
+        Ordering::No => make_reply(NO, 0, 0),
         Ordering::Refused(refusal) => reply_of_refusal(refusal),
     }
 }
@@ -92,35 +70,85 @@ pub fn same_reply(x: Reply, y: Reply) -> bool {
     x.b == y.b
 }
 
-// ---- halves
+// A call: of the judge, or of the ordering call for p and q; how many cells it is lent; a salt for the dirt; and what must come of it, where that is told.
+pub struct Call {
+    pub ordering: bool,
+    pub p: usize,
+    pub q: usize,
+    pub sizes: Sizes,
+    pub salt: usize,
+    pub want: Reply,
+}
 
-// What a cell holds before a call: of four kinds of dirt by the salt, from flags to numbers of any size.
-fn dirt(i: usize, salt: usize) -> u16 {
-    let x = (i % 65536) * 40503 + salt % 65536;
-    match salt % 4 {
-        0 => cell(x % 2),
-        1 => cell(x % 1025),
-        2 => 65535,
-        _ => cell(x),
+pub fn judging(sizes: Sizes, salt: usize) -> Call {
+    Call {
+        ordering: false,
+        p: 0,
+        q: 0,
+        sizes,
+        salt,
+        want: make_reply(UNTOLD, 0, 0),
     }
 }
 
-pub fn soil(cells: &mut [u16], salt: usize) {
-    let half = cells.len() / 2;
+pub fn asking(sizes: Sizes, p: usize, q: usize, salt: usize) -> Call {
+    Call {
+        ordering: true,
+        p,
+        q,
+        sizes,
+        salt,
+        want: make_reply(UNTOLD, 0, 0),
+    }
+}
+
+// ---- buffers
+
+// Cells behind those that are lent, which must stay as they are.
+const SPARE: usize = 8;
+
+// What a cell holds before a call: of four kinds of dirt by the salt, from flags to numbers of any size.
+fn dirt(i: usize, salt: usize) -> usize {
+    let x = (i % 65536) * 40503 + salt % 65536;
+    match salt % 4 {
+        0 => x % 2,
+        1 => x % 1025,
+        2 => 65535,
+        _ => x % 65536,
+    }
+}
+
+// Fills the lent cells, and some behind them.
+fn soil(cells: &mut [u16], lent: usize, salt: usize) {
+    let n = plus(lent, SPARE);
     let mut i = 0;
-    while i < half {
-        let v = dirt(i, salt);
-        put(cells, i, v);
-        put(cells, half + i, v);
+    while i < n {
+        put(cells, i, dirt(i, salt));
         i += 1;
     }
 }
 
-pub fn halves_agree(cells: &[u16]) -> bool {
-    let half = cells.len() / 2;
+// What a cell must hold: one of the first cells that of the memory from a place on, another its dirt.
+fn expected(memory: &[usize], from: usize, first: usize, i: usize, salt: usize) -> usize {
+    if i < first {
+        return get_word(memory, plus(from, i));
+    }
+    dirt(i, salt)
+}
+
+// Whether the lent cells, and some behind them, are as expected.
+fn holds(
+    cells: &[u16],
+    lent: usize,
+    salt: usize,
+    memory: &[usize],
+    from: usize,
+    first: usize,
+) -> bool {
+    let n = least(plus(lent, SPARE), cells.len());
     let mut i = 0;
-    while i < half {
-        if get(cells, i) != get(cells, half + i) {
+    while i < n {
+        if get(cells, i) != expected(memory, from, first, i, salt) {
             return false;
         }
         i += 1;
@@ -128,20 +156,32 @@ pub fn halves_agree(cells: &[u16]) -> bool {
     true
 }
 
-// ---- the judge
-
-fn answer(
-    kinds: &[u8],
-    tasks: &[u16],
-    operands: &[u16],
-    ws: &mut [u16],
-    first: &mut [u16],
-    second: &mut [u16],
-) -> Reply {
-    reply_of_answer(judge::judge(kinds, tasks, operands, ws, first, second))
+// Whether the workspace is as the call must leave it. Past its end the memory reads as 0.
+fn holds_zeros(ws: &[u16], call: Call, want: Reply, memory: &[usize]) -> bool {
+    let zeros = slow::cleared(minus(want.case, REFUSED), call.sizes.kinds);
+    holds(ws, call.sizes.ws, call.salt, memory, slow::MEMORY, zeros)
 }
 
-pub fn judged(
+// Whether the order buffers are as the judge must leave them: after a race at t each has its order in t + 1 cells.
+fn holds_orders(first: &[u16], second: &[u16], call: Call, want: Reply, memory: &[usize]) -> bool {
+    let n = if want.case == RACE { more(want.b) } else { 0 };
+    if !holds(first, call.sizes.first, call.salt, memory, slow::ORDERS, n) {
+        return false;
+    }
+    holds(
+        second,
+        call.sizes.second,
+        call.salt,
+        memory,
+        plus(slow::ORDERS, n),
+        n,
+    )
+}
+
+// ---- the judge
+
+// The judge's answer where it is lent so many cells.
+fn judge(
     kinds: &[u8],
     tasks: &[u16],
     operands: &[u16],
@@ -150,278 +190,189 @@ pub fn judged(
     second: &mut [u16],
     sizes: Sizes,
 ) -> Reply {
-    let w = least(sizes.ws, ws.len() / 2);
-    let f = least(sizes.first, first.len() / 2);
-    let g = least(sizes.second, second.len() / 2);
-    answer(
+    let w = least(sizes.ws, ws.len());
+    let f = least(sizes.first, first.len());
+    let g = least(sizes.second, second.len());
+    reply_of_answer(judge::judge(
         kinds,
         tasks,
         operands,
         &mut ws[0..w],
         &mut first[0..f],
         &mut second[0..g],
-    )
-}
-
-fn judged_slowly(
-    kinds: &[u8],
-    tasks: &[u16],
-    operands: &[u16],
-    ws: &mut [u16],
-    first: &mut [u16],
-    second: &mut [u16],
-    sizes: Sizes,
-    rows: &mut [u64],
-) -> Reply {
-    let w = ws.len() / 2;
-    let f = first.len() / 2;
-    let g = second.len() / 2;
-    let we = w + least(sizes.ws, w);
-    let fe = f + least(sizes.first, f);
-    let ge = g + least(sizes.second, g);
-    reply_of_answer(slow::judge(
-        kinds,
-        tasks,
-        operands,
-        &mut ws[w..we],
-        &mut first[f..fe],
-        &mut second[g..ge],
-        rows,
     ))
 }
 
-pub fn soil_all(ws: &mut [u16], first: &mut [u16], second: &mut [u16], salt: usize) {
-    soil(ws, salt);
-    soil(first, more(salt));
-    soil(second, more(more(salt)));
-}
-
-pub fn buffers_agree(ws: &[u16], first: &[u16], second: &[u16]) -> bool {
-    if !halves_agree(ws) {
+fn judged_in(
+    kinds: &[u8],
+    tasks: &[u16],
+    operands: &[u16],
+    ws: &mut [u16; 45100],
+    first: &mut [u16; 32800],
+    second: &mut [u16; 32800],
+    call: Call,
+    want: Reply,
+    memory: &[usize],
+) -> bool {
+    soil(ws, call.sizes.ws, call.salt);
+    soil(first, call.sizes.first, call.salt);
+    soil(second, call.sizes.second, call.salt);
+    let answer = judge(kinds, tasks, operands, ws, first, second, call.sizes);
+    if !same_reply(answer, want) {
         return false;
     }
-    if !halves_agree(first) {
+    if !holds_zeros(ws, call, want, memory) {
         return false;
     }
-    halves_agree(second)
+    holds_orders(first, second, call, want, memory)
 }
 
-fn mismatch() -> Reply {
-    Reply {
-        case: MISMATCH,
-        a: 0,
-        b: 0,
-    }
-}
-
-fn both_answer(
+// Whether the judge does as wanted. Arrays are lent whole as arrays: as slices each would have its length proved.
+fn judged(
     kinds: &[u8],
     tasks: &[u16],
     operands: &[u16],
-    ws: &mut [u16],
-    first: &mut [u16],
-    second: &mut [u16],
-    sizes: Sizes,
-    rows: &mut [u64],
-) -> Reply {
-    let x = judged(kinds, tasks, operands, ws, first, second, sizes);
-    let y = judged_slowly(kinds, tasks, operands, ws, first, second, sizes, rows);
-    if same_reply(x, y) { x } else { mismatch() }
-}
-
-// The answer of both judges, each lent so many cells of its half of dirty buffers, or MISMATCH.
-pub fn judged_twice(
-    kinds: &[u8],
-    tasks: &[u16],
-    operands: &[u16],
-    ws: &mut [u16],
-    first: &mut [u16],
-    second: &mut [u16],
-    sizes: Sizes,
-    rows: &mut [u64],
-    salt: usize,
-) -> Reply {
-    soil_all(ws, first, second, salt);
-    let reply = both_answer(kinds, tasks, operands, ws, first, second, sizes, rows);
-    if buffers_agree(ws, first, second) {
-        reply
-    } else {
-        mismatch()
-    }
-}
-
-// Two halves, each of so many cells and a few more, of what there is.
-fn halves(cells: usize, most: usize) -> usize
-    ensures { λ r. ⌜ r ≤ most ⌝ }
-{
-    least(plus(16, plus(cells, cells)), most)
-}
-
-fn judged_anew(
-    kinds: &[u8],
-    tasks: &[u16],
-    operands: &[u16],
-    sizes: Sizes,
-    rows: &mut [u64],
-    salt: usize,
-) -> Reply {
-    let mut ws = [0u16; 90200];
-    let mut first = [0u16; 65600];
-    let mut second = [0u16; 65600];
-    let w = halves(sizes.ws, 90200);
-    let f = halves(sizes.first, 65600);
-    let g = halves(sizes.second, 65600);
-    judged_twice(
+    call: Call,
+    want: Reply,
+    memory: &[usize],
+) -> bool {
+    let mut ws = [0u16; 45100];
+    let mut first = [0u16; 32800];
+    let mut second = [0u16; 32800];
+    judged_in(
         kinds,
         tasks,
         operands,
-        &mut ws[0..w],
-        &mut first[0..f],
-        &mut second[0..g],
-        sizes,
-        rows,
-        salt,
-    )
-}
-
-// The answer of both judges to the first cells of the slices, in buffers of their own, or MISMATCH.
-pub fn judge_twice(
-    kinds: &[u8],
-    tasks: &[u16],
-    operands: &[u16],
-    sizes: Sizes,
-    rows: &mut [u64],
-    salt: usize,
-) -> Reply {
-    let k = least(sizes.kinds, kinds.len());
-    let t = least(sizes.tasks, tasks.len());
-    let o = least(sizes.operands, operands.len());
-    judged_anew(
-        &kinds[0..k],
-        &tasks[0..t],
-        &operands[0..o],
-        sizes,
-        rows,
-        salt,
+        &mut ws,
+        &mut first,
+        &mut second,
+        call,
+        want,
+        memory,
     )
 }
 
 // ---- the ordering call
 
-pub struct Pair {
-    pub p: usize,
-    pub q: usize,
+fn order(kinds: &[u8], tasks: &[u16], operands: &[u16], ws: &mut [u16], call: Call) -> Reply {
+    let w = least(call.sizes.ws, ws.len());
+    reply_of_ordering(judge::ordering(kinds, tasks, operands, &mut ws[0..w], call.p, call.q))
 }
 
-fn ordering(
+fn ordered_in(
     kinds: &[u8],
     tasks: &[u16],
     operands: &[u16],
-    ws: &mut [u16],
-    p: usize,
-    q: usize,
-) -> Reply {
-    reply_of_ordering(judge::ordering(kinds, tasks, operands, ws, p, q))
+    ws: &mut [u16; 45100],
+    call: Call,
+    want: Reply,
+    memory: &[usize],
+) -> bool {
+    soil(ws, call.sizes.ws, call.salt);
+    let answer = order(kinds, tasks, operands, ws, call);
+    if !same_reply(answer, want) {
+        return false;
+    }
+    holds_zeros(ws, call, want, memory)
 }
 
-pub fn asked(
+// Whether the ordering call does as wanted.
+fn ordered(
     kinds: &[u8],
     tasks: &[u16],
     operands: &[u16],
-    ws: &mut [u16],
-    cells: usize,
-    pair: Pair,
-) -> Reply {
-    let w = least(cells, ws.len() / 2);
-    ordering(kinds, tasks, operands, &mut ws[0..w], pair.p, pair.q)
+    call: Call,
+    want: Reply,
+    memory: &[usize],
+) -> bool {
+    let mut ws = [0u16; 45100];
+    ordered_in(kinds, tasks, operands, &mut ws, call, want, memory)
 }
 
-fn asked_slowly(
+// ---- both
+
+// What must come of a call: what is told with it, or else what the slow one answers.
+fn wanted(
     kinds: &[u8],
     tasks: &[u16],
     operands: &[u16],
-    ws: &mut [u16],
-    cells: usize,
-    pair: Pair,
-    rows: &mut [u64],
+    call: Call,
+    memory: &mut [usize],
 ) -> Reply {
-    let w = ws.len() / 2;
-    let we = w + least(cells, w);
-    reply_of_ordering(slow::ordering(kinds, tasks, operands, &mut ws[w..we], pair.p, pair.q, rows))
+    if call.want.case != UNTOLD {
+        return call.want;
+    }
+    if call.ordering {
+        return reply_of_ordering(slow::ordering(
+            kinds,
+            tasks,
+            operands,
+            call.sizes,
+            call.p,
+            call.q,
+            memory,
+        ));
+    }
+    reply_of_answer(slow::judge(kinds, tasks, operands, call.sizes, memory))
 }
 
-fn both_order(
+fn done(
     kinds: &[u8],
     tasks: &[u16],
     operands: &[u16],
-    ws: &mut [u16],
-    cells: usize,
-    pair: Pair,
-    rows: &mut [u64],
-) -> Reply {
-    let x = asked(kinds, tasks, operands, ws, cells, pair);
-    let y = asked_slowly(kinds, tasks, operands, ws, cells, pair, rows);
-    if same_reply(x, y) { x } else { mismatch() }
+    call: Call,
+    want: Reply,
+    memory: &[usize],
+) -> bool {
+    if call.ordering {
+        return ordered(kinds, tasks, operands, call, want, memory);
+    }
+    judged(kinds, tasks, operands, call, want, memory)
 }
 
-fn asked_twice(
+fn compared(
     kinds: &[u8],
     tasks: &[u16],
     operands: &[u16],
-    ws: &mut [u16],
-    cells: usize,
-    pair: Pair,
-    rows: &mut [u64],
-    salt: usize,
+    call: Call,
+    memory: &mut [usize],
 ) -> Reply {
-    soil(ws, salt);
-    let reply = both_order(kinds, tasks, operands, ws, cells, pair, rows);
-    if halves_agree(ws) { reply } else { mismatch() }
+    let want = wanted(kinds, tasks, operands, call, memory);
+    if done(kinds, tasks, operands, call, want, memory) {
+        return want;
+    }
+    make_reply(MISMATCH, 0, 0)
 }
 
-fn asked_anew(
+fn compare_cut(
     kinds: &[u8],
     tasks: &[u16],
     operands: &[u16],
-    cells: usize,
-    pair: Pair,
-    rows: &mut [u64],
-    salt: usize,
+    call: Call,
+    memory: &mut [usize],
 ) -> Reply {
-    let mut ws = [0u16; 90200];
-    let w = halves(cells, 90200);
-    asked_twice(
-        kinds,
-        tasks,
-        operands,
-        &mut ws[0..w],
-        cells,
-        pair,
-        rows,
-        salt,
-    )
+    let k = least(call.sizes.kinds, kinds.len());
+    let t = least(call.sizes.tasks, tasks.len());
+    let o = least(call.sizes.operands, operands.len());
+    compared(&kinds[0..k], &tasks[0..t], &operands[0..o], call, memory)
 }
 
-// The answer of both ordering calls to the first cells of the slices, in a workspace of their own, or MISMATCH.
-pub fn ask_twice(
-    kinds: &[u8],
-    tasks: &[u16],
-    operands: &[u16],
-    sizes: Sizes,
-    pair: Pair,
-    rows: &mut [u64],
-    salt: usize,
+fn compare_in(
+    events: &[u16],
+    kinds: &mut [u8; 32800],
+    tasks: &mut [u16; 32800],
+    operands: &mut [u16; 32800],
+    call: Call,
+    memory: &mut [usize],
 ) -> Reply {
-    let k = least(sizes.kinds, kinds.len());
-    let t = least(sizes.tasks, tasks.len());
-    let o = least(sizes.operands, operands.len());
-    asked_anew(
-        &kinds[0..k],
-        &tasks[0..t],
-        &operands[0..o],
-        sizes.ws,
-        pair,
-        rows,
-        salt,
-    )
+    lay(events, kinds, tasks, operands);
+    compare_cut(kinds, tasks, operands, call, memory)
+}
+
+// The answer to a call on a trace of these events, or MISMATCH. Behind the events the slices hold reads of location 0 by task 0.
+pub fn compare(events: &[u16], call: Call, memory: &mut [usize]) -> Reply {
+    let mut kinds = [0u8; 32800];
+    let mut tasks = [0u16; 32800];
+    let mut operands = [0u16; 32800];
+    compare_in(events, &mut kinds, &mut tasks, &mut operands, call, memory)
 }

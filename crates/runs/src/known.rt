@@ -1,570 +1,89 @@
 // The runs that document 01 tells: each trace with its answer, and with both orders where they are told. Each is also judged by the slow judge, and asked
 // about every pair of positions.
-use crate::cells::get;
-use crate::cells::least;
-use crate::cells::more;
-use crate::cells::number;
-use crate::cells::plus;
 use crate::compare::MISMATCH;
-use crate::compare::Pair;
+use crate::compare::REFUSED;
 use crate::compare::Reply;
-use crate::compare::Sizes;
-use crate::compare::ask_twice;
-use crate::compare::judged_twice;
+use crate::compare::asking;
+use crate::compare::compare;
+use crate::compare::judging;
+use crate::compare::make_reply;
 use crate::compare::same_reply;
-use crate::events::FORK;
-use crate::events::HALT;
-use crate::events::JOIN;
-use crate::events::READ;
-use crate::events::WRITE;
-use crate::events::lay;
-
-const CLEAN: u16 = 0;
-
-const RACE: u16 = 1;
-
-const REFUSED: u16 = 2;
+use crate::table::read_table;
+use cells::get;
+use cells::get_word;
+use cells::least;
+use cells::more;
+use cells::plus;
+use slow::Sizes;
 
 pub const COUNT: usize = 32;
 
 // Of each run: how many events, how many cells of each order are told, the answer with its two numbers; then the events, and then the two orders.
-const CELLS: [u16; 485] = [
-    // "no events"
-    0,
-    0,
-    CLEAN,
-    0,
-    0,
-    // "`0 write 1023`", and with 1024
-    1,
-    0,
-    CLEAN,
-    0,
-    0,
-    0,
-    WRITE,
-    1023,
-    1,
-    0,
-    REFUSED,
-    8,
-    0,
-    0,
-    WRITE,
-    1024,
-    // "`0 fork 1023`", "`0 fork 1024`"
-    1,
-    0,
-    CLEAN,
-    0,
-    0,
-    0,
-    FORK,
-    1023,
-    1,
-    0,
-    REFUSED,
-    9,
-    0,
-    0,
-    FORK,
-    1024,
-    // two unordered reads; "Last event `0 write 5`"
-    4,
-    0,
-    CLEAN,
-    0,
-    0,
-    0,
-    FORK,
-    1,
-    1,
-    READ,
-    5,
-    1,
-    HALT,
-    0,
-    0,
-    READ,
-    5,
-    4,
-    0,
-    RACE,
-    1,
-    3,
-    0,
-    FORK,
-    1,
-    1,
-    READ,
-    5,
-    1,
-    HALT,
-    0,
-    0,
-    WRITE,
-    5,
-    // two writes before an unordered read
-    5,
-    5,
-    RACE,
-    1,
-    4,
-    0,
-    FORK,
-    1,
-    1,
-    WRITE,
-    5,
-    1,
-    WRITE,
-    5,
-    1,
-    HALT,
-    0,
-    0,
-    READ,
-    5,
-    0,
-    1,
-    4,
-    2,
-    3,
-    0,
-    4,
-    1,
-    2,
-    3,
-    // joins in the wrong order, and in the right one
-    5,
-    0,
-    REFUSED,
-    11,
-    4,
-    0,
-    FORK,
-    1,
-    1,
-    HALT,
-    0,
-    0,
-    FORK,
-    2,
-    2,
-    HALT,
-    0,
-    0,
-    JOIN,
-    1,
-    6,
-    0,
-    CLEAN,
-    0,
-    0,
-    0,
-    FORK,
-    1,
-    1,
-    HALT,
-    0,
-    0,
-    FORK,
-    2,
-    2,
-    HALT,
-    0,
-    0,
-    JOIN,
-    2,
-    0,
-    JOIN,
-    1,
-    // a task joins one that it did not fork, and with "`0 join 2` before the write"
-    8,
-    8,
-    RACE,
-    1,
-    7,
-    0,
-    FORK,
-    1,
-    1,
-    READ,
-    7,
-    1,
-    HALT,
-    0,
-    0,
-    READ,
-    7,
-    0,
-    FORK,
-    2,
-    2,
-    JOIN,
-    1,
-    2,
-    HALT,
-    0,
-    0,
-    WRITE,
-    7,
-    0,
-    3,
-    4,
-    1,
-    7,
-    2,
-    5,
-    6,
-    0,
-    3,
-    4,
-    7,
-    1,
-    2,
-    5,
-    6,
-    9,
-    0,
-    CLEAN,
-    0,
-    0,
-    0,
-    FORK,
-    1,
-    1,
-    READ,
-    7,
-    1,
-    HALT,
-    0,
-    0,
-    READ,
-    7,
-    0,
-    FORK,
-    2,
-    2,
-    JOIN,
-    1,
-    2,
-    HALT,
-    0,
-    0,
-    JOIN,
-    2,
-    0,
-    WRITE,
-    7,
-    // "`0 halt`, then kind 5"
-    2,
-    0,
-    REFUSED,
-    5,
-    1,
-    0,
-    HALT,
-    0,
-    0,
-    5,
-    0,
-    // the examples of rows 5 to 12
-    1,
-    0,
-    REFUSED,
-    5,
-    0,
-    0,
-    5,
-    0,
-    2,
-    0,
-    REFUSED,
-    6,
-    1,
-    0,
-    HALT,
-    0,
-    0,
-    READ,
-    1,
-    1,
-    0,
-    REFUSED,
-    7,
-    0,
-    1,
-    READ,
-    0,
-    1,
-    0,
-    REFUSED,
-    10,
-    0,
-    0,
-    FORK,
-    0,
-    1,
-    0,
-    REFUSED,
-    11,
-    0,
-    0,
-    JOIN,
-    1,
-    1,
-    0,
-    REFUSED,
-    12,
-    0,
-    0,
-    HALT,
-    3,
-    // row 6 before row 7, row 7 before row 8, a number used before, the largest kind, a task that is no task
-    2,
-    0,
-    REFUSED,
-    6,
-    1,
-    0,
-    HALT,
-    0,
-    1,
-    READ,
-    0,
-    1,
-    0,
-    REFUSED,
-    7,
-    0,
-    1,
-    READ,
-    1024,
-    3,
-    0,
-    REFUSED,
-    10,
-    2,
-    0,
-    FORK,
-    1,
-    1,
-    HALT,
-    0,
-    0,
-    FORK,
-    1,
-    1,
-    0,
-    REFUSED,
-    5,
-    0,
-    0,
-    255,
-    0,
-    1,
-    0,
-    REFUSED,
-    7,
-    0,
-    65535,
-    READ,
-    0,
-    // a trace may end with the halt of task 0
-    1,
-    0,
-    CLEAN,
-    0,
-    0,
-    0,
-    HALT,
-    0,
-    // "later events are not looked at"
-    5,
-    0,
-    RACE,
-    1,
-    3,
-    0,
-    FORK,
-    1,
-    1,
-    WRITE,
-    5,
-    1,
-    HALT,
-    0,
-    0,
-    WRITE,
-    5,
-    0,
-    5,
-    0,
-    // Figure 6 misses "a write before an unordered read", the run of the text form
-    4,
-    4,
-    RACE,
-    1,
-    3,
-    0,
-    FORK,
-    1,
-    1,
-    WRITE,
-    5,
-    1,
-    HALT,
-    0,
-    0,
-    READ,
-    5,
-    0,
-    1,
-    3,
-    2,
-    0,
-    3,
-    1,
-    2,
-    // "Only the last reader remembered"
-    8,
-    0,
-    RACE,
-    1,
-    7,
-    0,
-    FORK,
-    1,
-    1,
-    READ,
-    5,
-    1,
-    HALT,
-    0,
-    0,
-    FORK,
-    2,
-    2,
-    READ,
-    5,
-    2,
-    HALT,
-    0,
-    0,
-    JOIN,
-    2,
-    0,
-    WRITE,
-    5,
-    // "A paused parent's accesses before the fork taken as unordered with its child's"
-    3,
-    0,
-    CLEAN,
-    0,
-    0,
-    0,
-    WRITE,
-    5,
-    0,
-    FORK,
-    1,
-    1,
-    WRITE,
-    5,
-    4,
-    0,
-    CLEAN,
-    0,
-    0,
-    0,
-    WRITE,
-    5,
-    0,
-    FORK,
-    1,
-    1,
-    READ,
-    5,
-    1,
-    HALT,
-    0,
-    5,
-    0,
-    CLEAN,
-    0,
-    0,
-    0,
-    READ,
-    5,
-    0,
-    FORK,
-    1,
-    1,
-    FORK,
-    2,
-    2,
-    WRITE,
-    5,
-    2,
-    HALT,
-    0,
-    // the accesses of two children of one parent
-    5,
-    0,
-    RACE,
-    1,
-    4,
-    0,
-    FORK,
-    1,
-    1,
-    WRITE,
-    5,
-    1,
-    HALT,
-    0,
-    0,
-    FORK,
-    2,
-    2,
-    READ,
-    5,
-];
-
-fn refused(row: usize, position: usize) -> Reply {
-    Reply {
-        case: plus(number(REFUSED), row),
-        a: position,
-        b: 0,
-    }
+fn read_runs(cells: &mut [u16]) {
+    read_table(
+        b"
+# no events
+0 0 CLEAN 0 0
+# '0 write 1023', and with 1024
+1 0 CLEAN 0 0: 0 write 1023
+1 0 REFUSED 8 0: 0 write 1024
+# '0 fork 1023', '0 fork 1024'
+1 0 CLEAN 0 0: 0 fork 1023
+1 0 REFUSED 9 0: 0 fork 1024
+# two unordered reads; Last event '0 write 5'
+4 0 CLEAN 0 0: 0 fork 1, 1 read 5, 1 halt 0, 0 read 5
+4 0 RACE 1 3: 0 fork 1, 1 read 5, 1 halt 0, 0 write 5
+# two writes before an unordered read
+5 5 RACE 1 4: 0 fork 1, 1 write 5, 1 write 5, 1 halt 0, 0 read 5; 0 1 4 2 3; 0 4 1 2 3
+# joins in the wrong order, and in the right one
+5 0 REFUSED 11 4: 0 fork 1, 1 halt 0, 0 fork 2, 2 halt 0, 0 join 1
+6 0 CLEAN 0 0: 0 fork 1, 1 halt 0, 0 fork 2, 2 halt 0, 0 join 2, 0 join 1
+# a task joins one that it did not fork, and with '0 join 2' before the write
+8 8 RACE 1 7: 0 fork 1, 1 read 7, 1 halt 0, 0 read 7, 0 fork 2, 2 join 1, 2 halt 0, 0 write 7; 0 3 4 1 7 2 5 6; 0 3 4 7 1 2 5 6
+9 0 CLEAN 0 0: 0 fork 1, 1 read 7, 1 halt 0, 0 read 7, 0 fork 2, 2 join 1, 2 halt 0, 0 join 2, 0 write 7
+# '0 halt', then kind 5
+2 0 REFUSED 5 1: 0 halt 0, 0 5 0
+# the examples of rows 5 to 12
+1 0 REFUSED 5 0: 0 5 0
+2 0 REFUSED 6 1: 0 halt 0, 0 read 1
+1 0 REFUSED 7 0: 1 read 0
+1 0 REFUSED 10 0: 0 fork 0
+1 0 REFUSED 11 0: 0 join 1
+1 0 REFUSED 12 0: 0 halt 3
+# row 6 before row 7, row 7 before row 8, a number used before, the largest kind, a task that is no task
+2 0 REFUSED 6 1: 0 halt 0, 1 read 0
+1 0 REFUSED 7 0: 1 read 1024
+3 0 REFUSED 10 2: 0 fork 1, 1 halt 0, 0 fork 1
+1 0 REFUSED 5 0: 0 255 0
+1 0 REFUSED 7 0: 65535 read 0
+# a trace may end with the halt of task 0
+1 0 CLEAN 0 0: 0 halt 0
+# later events are not looked at
+5 0 RACE 1 3: 0 fork 1, 1 write 5, 1 halt 0, 0 write 5, 0 5 0
+# Figure 6 misses a write before an unordered read, the run of the text form
+4 4 RACE 1 3: 0 fork 1, 1 write 5, 1 halt 0, 0 read 5; 0 1 3 2; 0 3 1 2
+# Only the last reader remembered
+8 0 RACE 1 7: 0 fork 1, 1 read 5, 1 halt 0, 0 fork 2, 2 read 5, 2 halt 0, 0 join 2, 0 write 5
+# A paused parent's accesses before the fork taken as unordered with its child's
+3 0 CLEAN 0 0: 0 write 5, 0 fork 1, 1 write 5
+4 0 CLEAN 0 0: 0 write 5, 0 fork 1, 1 read 5, 1 halt 0
+5 0 CLEAN 0 0: 0 read 5, 0 fork 1, 1 fork 2, 2 write 5, 2 halt 0
+# the accesses of two children of one parent
+5 0 RACE 1 4: 0 fork 1, 1 write 5, 1 halt 0, 0 fork 2, 2 read 5
+",
+        cells,
+    );
 }
 
 // The answer that the table tells of the run at a cell.
 fn told(cells: &[u16], at: usize) -> Reply {
     let verdict = get(cells, plus(at, 2));
-    let x = number(get(cells, plus(at, 3)));
-    let y = number(get(cells, plus(at, 4)));
+    let x = get(cells, plus(at, 3));
+    let y = get(cells, plus(at, 4));
     if verdict == REFUSED {
-        return refused(x, y);
+        return make_reply(plus(REFUSED, x), y, 0);
     }
-    Reply {
-        case: number(verdict),
-        a: x,
-        b: y,
-    }
-}
-
-// Whether an order buffer begins with the n cells that stand in the table from a cell on.
-fn begins(cells: &[u16], at: usize, n: usize, buffer: &[u16]) -> bool {
-    let mut i = 0;
-    while i < n {
-        if get(cells, plus(at, i)) != get(buffer, i) {
-            return false;
-        }
-        i += 1;
-    }
-    true
+    make_reply(verdict, x, y)
 }
 
 // The slices of a trace of n events, with buffers longer than they need be.
@@ -579,82 +98,29 @@ pub fn roomy(n: usize) -> Sizes {
     }
 }
 
-fn orders_told(cells: &[u16], at: usize, m: usize, first: &[u16], second: &[u16]) -> bool {
-    if !begins(cells, at, m, first) {
-        return false;
-    }
-    begins(cells, plus(at, m), m, second)
+// How many cells n events have.
+fn cells_of(n: usize) -> usize {
+    plus(n, plus(n, n))
 }
 
 // Where the orders of the run at a cell stand in the table.
 fn orders_at(cells: &[u16], at: usize) -> usize {
-    let n = number(get(cells, at));
-    plus(at, plus(5, plus(n, plus(n, n))))
+    plus(at, plus(5, cells_of(get(cells, at))))
 }
 
-// Where the next run stands.
-fn next_at(cells: &[u16], at: usize) -> usize {
-    let m = number(get(cells, plus(at, 1)));
-    plus(orders_at(cells, at), plus(m, m))
+// How many cells both orders have.
+fn orders_count(cells: &[u16], at: usize) -> usize {
+    let m = get(cells, more(at));
+    plus(m, m)
 }
 
-// The answer to the run at a cell is as told, and so are the orders.
-fn as_told(cells: &[u16], at: usize, reply: Reply, first: &[u16], second: &[u16]) -> bool {
-    if !same_reply(reply, told(cells, at)) {
-        return false;
-    }
-    orders_told(
-        cells,
-        orders_at(cells, at),
-        number(get(cells, more(at))),
-        first,
-        second,
-    )
-}
-
-// Both judges answer the run at a cell as told, in buffers of their own.
-fn judged_as_told(
-    cells: &[u16],
-    at: usize,
-    kinds: &[u8],
-    tasks: &[u16],
-    operands: &[u16],
-    rows: &mut [u64],
-) -> bool {
-    let mut ws = [0u16; 24800];
-    let mut first = [0u16; 50];
-    let mut second = [0u16; 50];
-    let reply = judged_twice(
-        kinds,
-        tasks,
-        operands,
-        &mut ws,
-        &mut first,
-        &mut second,
-        roomy(kinds.len()),
-        rows,
-        at,
-    );
-    as_told(cells, at, reply, &first, &second)
-}
-
-// Both ordering calls agree on every pair of positions below 16, those past the end included.
-fn pairs_agree(kinds: &[u8], tasks: &[u16], operands: &[u16], rows: &mut [u64]) -> bool {
+// Whether the slow judge's two orders are those that the table tells of the run at a cell.
+fn orders_told(cells: &[u16], at: usize, memory: &[usize]) -> bool {
+    let from = orders_at(cells, at);
+    let n = orders_count(cells, at);
     let mut i = 0;
-    while i < 256 {
-        let reply = ask_twice(
-            kinds,
-            tasks,
-            operands,
-            roomy(kinds.len()),
-            Pair {
-                p: i / 16,
-                q: i % 16,
-            },
-            rows,
-            i,
-        );
-        if reply.case == MISMATCH {
+    while i < n {
+        if get(cells, plus(from, i)) != get_word(memory, plus(slow::ORDERS, i)) {
             return false;
         }
         i += 1;
@@ -662,63 +128,63 @@ fn pairs_agree(kinds: &[u8], tasks: &[u16], operands: &[u16], rows: &mut [u64]) 
     true
 }
 
-fn trace_agrees(
-    cells: &[u16],
-    at: usize,
-    kinds: &[u8],
-    tasks: &[u16],
-    operands: &[u16],
-    rows: &mut [u64],
-) -> bool {
-    if !judged_as_told(cells, at, kinds, tasks, operands, rows) {
+// Both ordering calls agree on every pair of positions below 16, those past the end included.
+fn pairs_agree(events: &[u16], n: usize, memory: &mut [usize]) -> bool {
+    let mut i = 0;
+    while i < 256 {
+        if compare(events, asking(roomy(n), i / 16, i % 16, i), memory).case == MISMATCH {
+            return false;
+        }
+        i += 1;
+    }
+    true
+}
+
+// Both judges answer the events of the run at a cell as told, with the orders that are told, and both ordering calls agree.
+fn agrees(cells: &[u16], at: usize, events: &[u16], memory: &mut [usize]) -> bool {
+    let n = get(cells, at);
+    let answer = compare(events, judging(roomy(n), at), memory);
+    if !same_reply(answer, told(cells, at)) {
         return false;
     }
-    pairs_agree(kinds, tasks, operands, rows)
+    if !orders_told(cells, at, memory) {
+        return false;
+    }
+    pairs_agree(events, n, memory)
 }
 
-fn agrees(cells: &[u16], at: usize, rows: &mut [u64]) -> bool {
-    let mut kinds = [0u8; 16];
-    let mut tasks = [0u16; 16];
-    let mut operands = [0u16; 16];
-    let n = least(number(get(cells, at)), 16);
-    lay(cells, plus(at, 5), n, &mut kinds, &mut tasks, &mut operands);
-    trace_agrees(cells, at, &kinds[0..n], &tasks[0..n], &operands[0..n], rows)
+fn run_agrees(cells: &[u16], at: usize, memory: &mut [usize]) -> bool {
+    let from = least(plus(at, 5), cells.len());
+    let to = from + least(cells_of(get(cells, at)), cells.len() - from);
+    agrees(cells, at, &cells[from..to], memory)
 }
 
-fn go_through(cells: &[u16], rows: &mut [u64]) -> usize {
+fn go_through(cells: &[u16], memory: &mut [usize]) -> usize {
     let mut at = 0;
     let mut i = 0;
     while i < COUNT {
-        if !agrees(cells, at, rows) {
+        if !run_agrees(cells, at, memory) {
             return i;
         }
-        at = next_at(cells, at);
+        at = plus(orders_at(cells, at), orders_count(cells, at));
         i += 1;
     }
     i
 }
 
 // The example of row 13: "empty trace, p = 0".
-fn past_the_end(rows: &mut [u64]) -> bool {
-    let kinds = [0u8; 1];
-    let cells = [0u16; 1];
-    let reply = ask_twice(
-        &kinds,
-        &cells,
-        &cells,
-        roomy(0),
-        Pair { p: 0, q: 0 },
-        rows,
-        1,
-    );
-    same_reply(reply, refused(13, 0))
+fn past_the_end(memory: &mut [usize]) -> bool {
+    let none = [0u16; 1];
+    let answer = compare(&none, asking(roomy(0), 0, 0, 1), memory);
+    same_reply(answer, make_reply(plus(REFUSED, 13), 0, 0))
 }
 
 // How many of the runs came out as told, one after the other.
-pub fn agreed(rows: &mut [u64]) -> usize {
-    let cells = CELLS;
-    if !past_the_end(rows) {
+pub fn agreed(memory: &mut [usize]) -> usize {
+    let mut cells = [0u16; 512];
+    read_runs(&mut cells);
+    if !past_the_end(memory) {
         return 0;
     }
-    go_through(&cells, rows)
+    go_through(&cells, memory)
 }

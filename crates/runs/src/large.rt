@@ -1,23 +1,23 @@
-// Traces of 32,768 events, too many for the slow judge: what must come of them is written out here, in the halves that the judge is not lent.
-use crate::cells::cell;
-use crate::cells::more;
-use crate::cells::put;
-use crate::cells::put_byte;
+// Traces of 32,768 events, too many for the slow judge: what must come of them is written out here.
 use crate::compare::CLEAN;
+use crate::compare::Call;
+use crate::compare::MISMATCH;
 use crate::compare::NO;
-use crate::compare::Pair;
 use crate::compare::RACE;
 use crate::compare::Reply;
-use crate::compare::Sizes;
 use crate::compare::YES;
-use crate::compare::asked;
-use crate::compare::buffers_agree;
-use crate::compare::halves_agree;
-use crate::compare::judged;
-use crate::compare::same_reply;
-use crate::compare::soil;
-use crate::compare::soil_all;
-use crate::slow::leave;
+use crate::compare::compare;
+use crate::compare::make_reply;
+use cells::more;
+use cells::plus;
+use cells::put_word;
+use samples::events::Event;
+use samples::events::FORK;
+use samples::events::HALT;
+use samples::events::READ;
+use samples::events::WRITE;
+use samples::events::put_event;
+use slow::Sizes;
 
 fn full() -> Sizes {
     Sizes {
@@ -30,183 +30,110 @@ fn full() -> Sizes {
     }
 }
 
-fn reply(case: usize, a: usize, b: usize) -> Reply {
-    Reply { case, a, b }
-}
-
-// The other workspace becomes what the judge's must be.
-fn leave_other(ws: &mut [u16]) {
-    let half = ws.len() / 2;
-    leave(&mut ws[half..], 32768);
-}
-
-// Whether the judge gives this answer to dirty buffers.
-fn answers(
-    kinds: &[u8],
-    tasks: &[u16],
-    operands: &[u16],
-    ws: &mut [u16],
-    first: &mut [u16],
-    second: &mut [u16],
-    want: Reply,
-) -> bool {
-    soil_all(ws, first, second, 3);
-    same_reply(
-        judged(kinds, tasks, operands, ws, first, second, full()),
+fn judging(want: Reply) -> Call {
+    Call {
+        ordering: false,
+        p: 0,
+        q: 0,
+        sizes: full(),
+        salt: 3,
         want,
-    )
+    }
+}
+
+// Whether position p reaches the last.
+fn asking(p: usize, case: usize) -> Call {
+    Call {
+        ordering: true,
+        p,
+        q: 32767,
+        sizes: full(),
+        salt: 7,
+        want: make_reply(case, 0, 0),
+    }
+}
+
+// Whether a call on these events, and reads by task 0 behind them, comes out as told.
+fn answers(events: &[u16], call: Call, memory: &mut [usize]) -> bool {
+    compare(events, call, memory).case != MISMATCH
 }
 
 // "32,768 reads by task 0: clean"
-fn reads_in(
-    kinds: &[u8],
-    tasks: &[u16],
-    operands: &[u16],
-    ws: &mut [u16],
-    first: &mut [u16],
-    second: &mut [u16],
-) -> bool {
-    if !answers(
-        kinds,
-        tasks,
-        operands,
-        ws,
-        first,
-        second,
-        reply(CLEAN, 0, 0),
-    ) {
-        return false;
-    }
-    leave_other(ws);
-    buffers_agree(ws, first, second)
+fn reads(memory: &mut [usize]) -> bool {
+    let events = [0u16; 3];
+    answers(&events, judging(make_reply(CLEAN, 0, 0)), memory)
 }
 
-fn reads() -> bool {
-    let kinds = [0u8; 32768];
-    let zeros = [0u16; 32768];
-    let mut ws = [0u16; 90200];
-    let mut first = [0u16; 65600];
-    let mut second = [0u16; 65600];
-    reads_in(&kinds, &zeros, &zeros, &mut ws, &mut first, &mut second)
+fn put_one(events: &mut [u16], p: usize, task: usize, kind: usize, operand: usize) {
+    put_event(
+        events,
+        p,
+        Event {
+            task,
+            kind,
+            operand,
+        },
+    );
 }
 
 // `0 fork 1`, `1 write 6`, `1 halt`, reads of location 0 by task 0, and last `0 read 6`; where a cell is not set here it is 0.
-fn lay_race(kinds: &mut [u8], tasks: &mut [u16], operands: &mut [u16]) {
-    put_byte(kinds, 0, 2);
-    put_byte(kinds, 1, 1);
-    put_byte(kinds, 2, 4);
-    put(tasks, 1, 1);
-    put(tasks, 2, 1);
-    put(operands, 0, 1);
-    put(operands, 1, 6);
-    put(operands, 32767, 6);
+fn lay_race(events: &mut [u16]) {
+    put_one(events, 0, 0, FORK, 1);
+    put_one(events, 1, 1, WRITE, 6);
+    put_one(events, 2, 1, HALT, 0);
+    put_one(events, 32767, 0, READ, 6);
 }
 
 // 0, 3 to 32,766, a, b, 2.
-fn order(buffer: &mut [u16], a: u16, b: u16) {
-    put(buffer, 0, 0);
+fn order(memory: &mut [usize], from: usize, a: usize, b: usize) {
+    put_word(memory, from, 0);
     let mut i: usize = 1;
     while i < 32765 {
-        put(buffer, i, cell(i + 2));
+        put_word(memory, plus(from, i), i + 2);
         i += 1;
     }
-    put(buffer, 32765, a);
-    put(buffer, 32766, b);
-    put(buffer, 32767, 2);
-}
-
-fn order_other(buffer: &mut [u16], a: u16, b: u16) {
-    let half = buffer.len() / 2;
-    order(&mut buffer[half..], a, b);
-}
-
-fn race_other(ws: &mut [u16], first: &mut [u16], second: &mut [u16]) {
-    leave_other(ws);
-    order_other(first, 1, 32767);
-    order_other(second, 32767, 1);
+    put_word(memory, plus(from, 32765), a);
+    put_word(memory, plus(from, 32766), b);
+    put_word(memory, plus(from, 32767), 2);
 }
 
 // A race of the last event with the second.
-fn race_in(
-    kinds: &[u8],
-    tasks: &[u16],
-    operands: &[u16],
-    ws: &mut [u16],
-    first: &mut [u16],
-    second: &mut [u16],
-) -> bool {
-    if !answers(
-        kinds,
-        tasks,
-        operands,
-        ws,
-        first,
-        second,
-        reply(RACE, 1, 32767),
-    ) {
-        return false;
-    }
-    race_other(ws, first, second);
-    buffers_agree(ws, first, second)
-}
-
-fn race(kinds: &[u8], tasks: &[u16], operands: &[u16]) -> bool {
-    let mut ws = [0u16; 90200];
-    let mut first = [0u16; 65600];
-    let mut second = [0u16; 65600];
-    race_in(kinds, tasks, operands, &mut ws, &mut first, &mut second)
-}
-
-fn ask_in(
-    kinds: &[u8],
-    tasks: &[u16],
-    operands: &[u16],
-    ws: &mut [u16],
-    p: usize,
-    case: usize,
-) -> bool {
-    soil(ws, 7);
-    let answer = asked(kinds, tasks, operands, ws, 45060, Pair { p, q: 32767 });
-    if !same_reply(answer, reply(case, 0, 0)) {
-        return false;
-    }
-    leave_other(ws);
-    halves_agree(ws)
-}
-
-fn ask(kinds: &[u8], tasks: &[u16], operands: &[u16], p: usize, case: usize) -> bool {
-    let mut ws = [0u16; 90200];
-    ask_in(kinds, tasks, operands, &mut ws, p, case)
+fn race(events: &[u16], memory: &mut [usize]) -> bool {
+    order(memory, slow::ORDERS, 1, 32767);
+    order(memory, plus(slow::ORDERS, 32768), 32767, 1);
+    answers(events, judging(make_reply(RACE, 1, 32767)), memory)
 }
 
 // The race, and that the fork reaches the last event and the child's write does not: how many hold, one after the other.
-fn race_and_pairs(kinds: &[u8], tasks: &[u16], operands: &[u16]) -> usize {
-    if !race(kinds, tasks, operands) {
+fn race_and_pairs(events: &[u16], memory: &mut [usize]) -> usize {
+    if !race(events, memory) {
         return 0;
     }
-    if !ask(kinds, tasks, operands, 0, YES) {
+    if !answers(events, asking(0, YES), memory) {
         return 1;
     }
-    if !ask(kinds, tasks, operands, 1, NO) {
+    if !answers(events, asking(1, NO), memory) {
         return 2;
     }
     3
 }
 
-fn on_race() -> usize {
-    let mut kinds = [0u8; 32768];
-    let mut tasks = [0u16; 32768];
-    let mut operands = [0u16; 32768];
-    lay_race(&mut kinds, &mut tasks, &mut operands);
-    race_and_pairs(&kinds, &tasks, &operands)
+fn on_race_in(events: &mut [u16; 98304], memory: &mut [usize]) -> usize {
+    lay_race(events);
+    race_and_pairs(events, memory)
+}
+
+fn on_race(memory: &mut [usize]) -> usize {
+    let mut events = [0u16; 98304];
+    on_race_in(&mut events, memory)
 }
 
 pub const COUNT: usize = 4;
 
 // How many of these came out as written here, one after the other.
-pub fn agreed() -> usize {
-    if !reads() {
+pub fn agreed(memory: &mut [usize]) -> usize {
+    if !reads(memory) {
         return 0;
     }
-    more(on_race())
+    more(on_race(memory))
 }

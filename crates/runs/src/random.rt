@@ -1,21 +1,21 @@
 // Many traces at random: both judges answer each, and both ordering calls several pairs of its positions.
-use crate::cells::get_word;
-use crate::cells::less;
-use crate::cells::more;
-use crate::cells::plus;
-use crate::cells::put_word;
+use crate::compare::Call;
 use crate::compare::MISMATCH;
-use crate::compare::Pair;
-use crate::compare::Sizes;
-use crate::compare::ask_twice;
-use crate::compare::judge_twice;
-use crate::draws::below;
-use crate::draws::next;
-use crate::draws::seed_of;
-use crate::draws::stream;
-use crate::events::lay;
+use crate::compare::Reply;
+use crate::compare::asking;
+use crate::compare::compare;
+use crate::compare::judging;
 use crate::known::roomy;
-use crate::traces::make;
+use cells::least;
+use cells::less;
+use cells::more;
+use cells::plus;
+use samples::draws::below;
+use samples::draws::next;
+use samples::draws::seed_of;
+use samples::draws::stream;
+use samples::make;
+use slow::Sizes;
 
 pub const TRACES: usize = 10000;
 
@@ -26,12 +26,35 @@ pub const ORDERING: usize = 32;
 
 pub const EVENTS: usize = 64;
 
-fn count(counts: &mut [u64], i: usize, more: u64) {
-    put_word(
-        counts,
-        i,
-        std::num::wrapping_add_u64(get_word(counts, i), more),
-    );
+// The counts so far, and whether all answers agreed.
+pub struct Tally {
+    pub counts: [usize; 65],
+    pub agreed: bool,
+}
+
+pub fn count_at(counts: [usize; 65], i: usize) -> usize {
+    if i < 65 { counts[i] } else { 0 }
+}
+
+fn count(mut counts: [usize; 65], i: usize, more: usize) -> [usize; 65] {
+    if i < 65 {
+        counts[i] = plus(counts[i], more);
+    }
+    counts
+}
+
+fn count_reply(tally: Tally, from: usize, reply: Reply) -> Tally {
+    let counts = tally.counts;
+    if reply.case == MISMATCH {
+        return Tally {
+            counts,
+            agreed: false,
+        };
+    }
+    Tally {
+        counts: count(counts, plus(from, reply.case), 1),
+        agreed: tally.agreed,
+    }
 }
 
 // Just enough cells in each slice.
@@ -79,108 +102,107 @@ fn sizes_of(n: usize, seed: usize) -> Sizes {
     sizes
 }
 
-// Two positions, at times just past the end or far, mostly the smaller one first.
-fn pair_of(n: usize, seed: usize) -> Pair {
-    let a = next(seed);
-    let b = next(a);
-    let p = below(seed, more(n));
-    let q = below(a, more(n));
-    match below(b, 40) {
-        0 => Pair { p: b, q },
-        1 => Pair { p, q: b },
-        2 | 3 | 4 | 5 => Pair { p, q },
-        _ => rising(p, q),
+// Asks about two positions, the smaller one first.
+fn rising(sizes: Sizes, p: usize, q: usize, salt: usize) -> Call {
+    if p <= q {
+        return asking(sizes, p, q, salt);
     }
+    asking(sizes, q, p, salt)
 }
 
-fn rising(p: usize, q: usize) -> Pair {
-    if p <= q {
-        return Pair { p, q };
+// Asks about two positions, at times just past the end or far, mostly the smaller one first.
+fn asking_of(sizes: Sizes, seed: usize) -> Call {
+    let a = next(seed);
+    let b = next(a);
+    let n = more(sizes.kinds);
+    let p = below(seed, n);
+    let q = below(a, n);
+    match below(b, 40) {
+        0 => asking(sizes, b, q, seed),
+        1 => asking(sizes, p, b, seed),
+        2 | 3 | 4 | 5 => asking(sizes, p, q, seed),
+        _ => rising(sizes, p, q, seed),
     }
-    Pair { p: q, q: p }
 }
 
 // Asks about some pairs, and counts the answers.
 fn ask_all(
-    kinds: &[u8],
-    tasks: &[u16],
-    operands: &[u16],
+    events: &[u16],
     sizes: Sizes,
-    rows: &mut [u64],
-    counts: &mut [u64],
     seed: usize,
-) -> bool {
-    let mut i = 0;
+    before: Tally,
+    memory: &mut [usize],
+) -> Tally {
+    let mut tally = before;
     let mut draw = seed;
+    let mut i = 0;
     while i < PAIRS {
         draw = next(next(draw));
-        let reply = ask_twice(
-            kinds,
-            tasks,
-            operands,
-            sizes,
-            pair_of(sizes.kinds, draw),
-            rows,
-            draw,
-        );
-        if reply.case == MISMATCH {
-            return false;
-        }
-        count(counts, plus(ORDERING, reply.case), 1);
+        let reply = compare(events, asking_of(sizes, draw), memory);
+        tally = count_reply(tally, ORDERING, reply);
         i += 1;
     }
-    true
+    tally
 }
 
 fn judge_and_ask(
-    kinds: &[u8],
-    tasks: &[u16],
-    operands: &[u16],
+    events: &[u16],
     sizes: Sizes,
-    rows: &mut [u64],
-    counts: &mut [u64],
     seed: usize,
-) -> bool {
-    let reply = judge_twice(kinds, tasks, operands, sizes, rows, seed);
-    if reply.case == MISMATCH {
-        return false;
-    }
-    count(counts, reply.case, 1);
-    ask_all(kinds, tasks, operands, sizes, rows, counts, stream(seed, 6))
-}
-
-fn compare(events: &[u16], n: usize, rows: &mut [u64], counts: &mut [u64], seed: usize) -> bool {
-    let mut kinds = [0u8; 4100];
-    let mut tasks = [0u16; 4100];
-    let mut operands = [0u16; 4100];
-    lay(events, 0, n, &mut kinds, &mut tasks, &mut operands);
-    judge_and_ask(
-        &kinds,
-        &tasks,
-        &operands,
-        sizes_of(n, stream(seed, 5)),
-        rows,
-        counts,
-        seed,
+    tally: Tally,
+    memory: &mut [usize],
+) -> Tally {
+    let reply = compare(events, judging(sizes, seed), memory);
+    ask_all(
+        events,
+        sizes,
+        stream(seed, 6),
+        count_reply(tally, 0, reply),
+        memory,
     )
 }
 
 // Makes the trace of a seed, and compares.
-fn try_one(rows: &mut [u64], counts: &mut [u64], seed: usize) -> bool {
+fn try_one(seed: usize, tally: Tally, memory: &mut [usize]) -> Tally {
     let mut events = [0u16; 12300];
     let n = make(&mut events, seed);
-    count(counts, EVENTS, n as u64);
-    compare(&events, n, rows, counts, seed)
+    let cut = least(plus(n, plus(n, n)), 12300);
+    let counts = tally.counts;
+    judge_and_ask(
+        &events[0..cut],
+        sizes_of(n, stream(seed, 5)),
+        seed,
+        Tally {
+            counts: count(counts, EVENTS, n),
+            agreed: tally.agreed,
+        },
+        memory,
+    )
 }
 
-// How many traces agreed, one after the other.
-pub fn agreed(rows: &mut [u64], counts: &mut [u64]) -> usize {
+// How many traces agreed, one after the other, and the counts.
+pub struct Trials {
+    pub agreed: usize,
+    pub counts: [usize; 65],
+}
+
+fn tried(agreed: usize, tally: Tally) -> Trials {
+    let counts = tally.counts;
+    Trials { agreed, counts }
+}
+
+pub fn try_all(memory: &mut [usize]) -> Trials {
+    let mut tally = Tally {
+        counts: [0; 65],
+        agreed: true,
+    };
     let mut i = 0;
     while i < TRACES {
-        if !try_one(rows, counts, seed_of(i)) {
-            return i;
+        tally = try_one(seed_of(i), tally, memory);
+        if !tally.agreed {
+            return tried(i, tally);
         }
         i += 1;
     }
-    i
+    tried(i, tally)
 }

@@ -7,10 +7,10 @@ use Rattle.runs.proofs.known.go_through.Statement.{statement}
 use Rattle.runs.proofs.known.go_through.Tie as tie
 
 abbrev Inv-loop : tie.InvT-loop
-Inv-loop cells rows₀ at₀ i₀ rows at i = length rows ≡ length rows₀
+Inv-loop cells memory₀ at₀ i₀ memory at i = length memory ≡ length memory₀
 
 abbrev μ-loop : tie.MeasureT-loop
-μ-loop cells rows₀ at₀ i₀ rows at i = 32 - i
+μ-loop cells memory₀ at₀ i₀ memory at i = 32 - i
 
 pub go-through-spec : {M : Type 1} → statement M
 go-through-spec =
@@ -22,6 +22,8 @@ go-through-spec =
     (λ c κs. search needs)
     (λ c. search needs)
     (λ c. search needs)
+    (λ c κs. search needs)
+    (λ c κs. search needs)
     (λ c κs. search needs)
     (λ c. search needs)
     (λ c. search needs)

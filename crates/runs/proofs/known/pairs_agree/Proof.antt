@@ -7,10 +7,10 @@ use Rattle.runs.proofs.known.pairs_agree.Statement.{statement}
 use Rattle.runs.proofs.known.pairs_agree.Tie as tie
 
 abbrev Inv-loop : tie.InvT-loop
-Inv-loop kinds tasks operands rows₀ i₀ rows i = length rows ≡ length rows₀
+Inv-loop events n memory₀ i₀ memory i = length memory ≡ length memory₀
 
 abbrev μ-loop : tie.MeasureT-loop
-μ-loop kinds tasks operands rows₀ i₀ rows i = 256 - i
+μ-loop events n memory₀ i₀ memory i = 256 - i
 
 pub pairs-agree-spec : {M : Type 1} → statement M
 pairs-agree-spec =
@@ -19,6 +19,7 @@ pairs-agree-spec =
     Inv-loop
     μ-loop
     (λ c. search needs)
+    (λ c κs. search needs)
     (λ c κs. search needs)
     (λ c κs. search needs)
     (λ c. search needs)

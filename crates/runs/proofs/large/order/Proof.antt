@@ -7,10 +7,10 @@ use Rattle.runs.proofs.large.order.Statement.{statement}
 use Rattle.runs.proofs.large.order.Tie as tie
 
 abbrev Inv-loop : tie.InvT-loop
-Inv-loop buffer₀ a b i₀ buffer i = length buffer ≡ length buffer₀
+Inv-loop memory₀ from a b i₀ memory i = length memory ≡ length memory₀
 
 abbrev μ-loop : tie.MeasureT-loop
-μ-loop buffer₀ a b i₀ buffer i = 32765 - i
+μ-loop memory₀ from a b i₀ memory i = 32765 - i
 
 pub order-spec : {M : Type 1} → statement M
 order-spec =
@@ -20,12 +20,15 @@ order-spec =
     μ-loop
     (λ c κs. search needs)
     (λ c. search needs)
+    (λ c κs. search needs)
+    (λ c. search needs)
+    (λ c κs. search needs)
+    (λ c. search needs)
+    (λ c. search needs)
     (λ c. search needs)
     (λ c κs. search needs)
     (λ c κs. search needs)
-    (λ c. search needs)
-    (λ c. search needs)
-    (λ c. search needs)
+    (λ c κs. search needs)
     (λ c κs. search needs)
     (λ c κs. search needs)
     (λ c κs. search needs)

@@ -7,10 +7,10 @@ use Rattle.runs.proofs.random.ask_all.Statement.{statement}
 use Rattle.runs.proofs.random.ask_all.Tie as tie
 
 abbrev Inv-loop : tie.InvT-loop
-Inv-loop kinds tasks operands sizes rows₀ counts₀ seed i₀ draw₀ rows counts i draw = (length rows ≡ length rows₀) × (length counts ≡ length counts₀)
+Inv-loop events sizes seed memory₀ tally₀ draw₀ i₀ memory tally draw i = length memory ≡ length memory₀
 
 abbrev μ-loop : tie.MeasureT-loop
-μ-loop kinds tasks operands sizes rows₀ counts₀ seed i₀ draw₀ rows counts i draw = 4 - i
+μ-loop events sizes seed memory₀ tally₀ draw₀ i₀ memory tally draw i = 4 - i
 
 pub ask-all-spec : {M : Type 1} → statement M
 ask-all-spec =
@@ -23,12 +23,7 @@ ask-all-spec =
     (λ c κs. search needs)
     (λ c κs. search needs)
     (λ c κs. search needs)
-    (λ c. search needs)
-    (λ c. search needs)
-    (λ c. search needs)
     (λ c κs. search needs)
-    (λ c κs. search needs)
-    (λ c. search needs)
     (λ c. search needs)
     (λ c. search needs)
     (λ c. search needs)

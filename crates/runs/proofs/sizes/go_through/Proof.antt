@@ -7,10 +7,10 @@ use Rattle.runs.proofs.sizes.go_through.Statement.{statement}
 use Rattle.runs.proofs.sizes.go_through.Tie as tie
 
 abbrev Inv-loop : tie.InvT-loop
-Inv-loop cells kinds tasks operands rows₀ run₀ rows run = length rows ≡ length rows₀
+Inv-loop cells events memory₀ run₀ memory run = length memory ≡ length memory₀
 
 abbrev μ-loop : tie.MeasureT-loop
-μ-loop cells kinds tasks operands rows₀ run₀ rows run = 24 - run
+μ-loop cells events memory₀ run₀ memory run = 24 - run
 
 pub go-through-spec : {M : Type 1} → statement M
 go-through-spec =
