@@ -1,182 +1,19 @@
-// One call of the judge, or of the ordering call, in dirty buffers: its answer and all cells that it was lent, and some behind them, are held to what the
-// slow one says.
-use cells::get;
-use cells::get_word;
+// One call of the judge, or of the ordering call, in dirty buffers: its answer and all cells that it was lent, and some behind them, are held to what must
+// come of it.
+use calls::Call;
+use calls::MISMATCH;
+use calls::Reply;
+use calls::buffers::holds_orders;
+use calls::buffers::holds_zeros;
+use calls::buffers::soil;
+use calls::make_reply;
+use calls::reply_of_answer;
+use calls::reply_of_ordering;
+use calls::same_reply;
+use calls::wanted;
 use cells::least;
-use cells::minus;
-use cells::more;
-use cells::plus;
-use cells::put;
 use samples::events::lay;
 use slow::Sizes;
-use trace::Answer;
-use trace::Ordering;
-use trace::Refusal;
-
-// An answer in numbers. The case is CLEAN, RACE or REFUSED + number for the judge, and YES, NO or REFUSED + number for the ordering call.
-pub struct Reply {
-    pub case: usize,
-    pub a: usize,
-    pub b: usize,
-}
-
-pub const CLEAN: usize = 0;
-
-pub const RACE: usize = 1;
-
-pub const YES: usize = 0;
-
-pub const NO: usize = 1;
-
-pub const REFUSED: usize = 2;
-
-// Not yet known: the slow judge is to say it.
-pub const UNTOLD: usize = 62;
-
-// The answer, or a cell, is not as it must be.
-pub const MISMATCH: usize = 63;
-
-pub fn make_reply(case: usize, a: usize, b: usize) -> Reply {
-    Reply { case, a, b }
-}
-
-fn reply_of_refusal(refusal: Refusal) -> Reply {
-    make_reply(plus(REFUSED, refusal.number), refusal.position, 0)
-}
-
-fn reply_of_answer(answer: Answer) -> Reply {
-    match answer {
-        Answer::Clean => make_reply(CLEAN, 0, 0),
-        Answer::Race(s, t) => make_reply(RACE, s, t),
-        Answer::Refused(refusal) => reply_of_refusal(refusal),
-    }
-}
-
-fn reply_of_ordering(ordering: Ordering) -> Reply {
-    match ordering {
-        Ordering::Yes => make_reply(YES, 0, 0),
-        Ordering::No => make_reply(NO, 0, 0),
-        Ordering::Refused(refusal) => reply_of_refusal(refusal),
-    }
-}
-
-pub fn same_reply(x: Reply, y: Reply) -> bool {
-    if x.case != y.case {
-        return false;
-    }
-    if x.a != y.a {
-        return false;
-    }
-    x.b == y.b
-}
-
-// A call: of the judge, or of the ordering call for p and q; how many cells it is lent; a salt for the dirt; and what must come of it, where that is told.
-pub struct Call {
-    pub ordering: bool,
-    pub p: usize,
-    pub q: usize,
-    pub sizes: Sizes,
-    pub salt: usize,
-    pub want: Reply,
-}
-
-pub fn judging(sizes: Sizes, salt: usize) -> Call {
-    Call {
-        ordering: false,
-        p: 0,
-        q: 0,
-        sizes,
-        salt,
-        want: make_reply(UNTOLD, 0, 0),
-    }
-}
-
-pub fn asking(sizes: Sizes, p: usize, q: usize, salt: usize) -> Call {
-    Call {
-        ordering: true,
-        p,
-        q,
-        sizes,
-        salt,
-        want: make_reply(UNTOLD, 0, 0),
-    }
-}
-
-// ---- buffers
-
-// Cells behind those that are lent, which must stay as they are.
-const SPARE: usize = 8;
-
-// What a cell holds before a call: of four kinds of dirt by the salt, from flags to numbers of any size.
-fn dirt(i: usize, salt: usize) -> usize {
-    let x = (i % 65536) * 40503 + salt % 65536;
-    match salt % 4 {
-        0 => x % 2,
-        1 => x % 1025,
-        2 => 65535,
-        _ => x % 65536,
-    }
-}
-
-// Fills the lent cells, and some behind them.
-fn soil(cells: &mut [u16], lent: usize, salt: usize) {
-    let n = plus(lent, SPARE);
-    let mut i = 0;
-    while i < n {
-        put(cells, i, dirt(i, salt));
-        i += 1;
-    }
-}
-
-// What a cell must hold: one of the first cells that of the memory from a place on, another its dirt.
-fn expected(memory: &[usize], from: usize, first: usize, i: usize, salt: usize) -> usize {
-    if i < first {
-        return get_word(memory, plus(from, i));
-    }
-    dirt(i, salt)
-}
-
-// Whether the lent cells, and some behind them, are as expected.
-fn holds(
-    cells: &[u16],
-    lent: usize,
-    salt: usize,
-    memory: &[usize],
-    from: usize,
-    first: usize,
-) -> bool {
-    let n = least(plus(lent, SPARE), cells.len());
-    let mut i = 0;
-    while i < n {
-        if get(cells, i) != expected(memory, from, first, i, salt) {
-            return false;
-        }
-        i += 1;
-    }
-    true
-}
-
-// Whether the workspace is as the call must leave it. Past its end the memory reads as 0.
-fn holds_zeros(ws: &[u16], call: Call, want: Reply, memory: &[usize]) -> bool {
-    let zeros = slow::cleared(minus(want.case, REFUSED), call.sizes.kinds);
-    holds(ws, call.sizes.ws, call.salt, memory, slow::MEMORY, zeros)
-}
-
-// Whether the order buffers are as the judge must leave them: after a race at t each has its order in t + 1 cells.
-fn holds_orders(first: &[u16], second: &[u16], call: Call, want: Reply, memory: &[usize]) -> bool {
-    let n = if want.case == RACE { more(want.b) } else { 0 };
-    if !holds(first, call.sizes.first, call.salt, memory, slow::ORDERS, n) {
-        return false;
-    }
-    holds(
-        second,
-        call.sizes.second,
-        call.salt,
-        memory,
-        plus(slow::ORDERS, n),
-        n,
-    )
-}
 
 // ---- the judge
 
@@ -290,31 +127,6 @@ fn ordered(
 }
 
 // ---- both
-
-// What must come of a call: what is told with it, or else what the slow one answers.
-fn wanted(
-    kinds: &[u8],
-    tasks: &[u16],
-    operands: &[u16],
-    call: Call,
-    memory: &mut [usize],
-) -> Reply {
-    if call.want.case != UNTOLD {
-        return call.want;
-    }
-    if call.ordering {
-        return reply_of_ordering(slow::ordering(
-            kinds,
-            tasks,
-            operands,
-            call.sizes,
-            call.p,
-            call.q,
-            memory,
-        ));
-    }
-    reply_of_answer(slow::judge(kinds, tasks, operands, call.sizes, memory))
-}
 
 fn done(
     kinds: &[u8],

@@ -4,7 +4,6 @@ mod known;
 mod large;
 mod random;
 mod sizes;
-mod table;
 
 use cells::plus;
 use libc::STDOUT_FILENO;
@@ -30,7 +29,7 @@ fn print_refusal(counts: [usize; 65], from: usize, number: usize) {
     io::print_decimal(STDOUT_FILENO, number as u64);
     print(
         b": ",
-        count_at(counts, plus(from, plus(compare::REFUSED, number))),
+        count_at(counts, plus(from, plus(calls::REFUSED, number))),
     );
 }
 
@@ -45,8 +44,8 @@ fn print_refusals(counts: [usize; 65], from: usize) {
 fn print_judge(counts: [usize; 65]) {
     print(b"  events of a trace, at most: ", slow::EVENTS);
     print(b"  events in all: ", count_at(counts, random::EVENTS));
-    print(b"  clean: ", count_at(counts, compare::CLEAN));
-    print(b"  race: ", count_at(counts, compare::RACE));
+    print(b"  clean: ", count_at(counts, calls::CLEAN));
+    print(b"  race: ", count_at(counts, calls::RACE));
     print_refusals(counts, 0);
 }
 
@@ -54,11 +53,11 @@ fn print_ordering(counts: [usize; 65]) {
     print(b"pairs of each trace: ", random::PAIRS);
     print(
         b"  yes: ",
-        count_at(counts, plus(random::ORDERING, compare::YES)),
+        count_at(counts, plus(random::ORDERING, calls::YES)),
     );
     print(
         b"  no: ",
-        count_at(counts, plus(random::ORDERING, compare::NO)),
+        count_at(counts, plus(random::ORDERING, calls::NO)),
     );
     print_refusals(counts, random::ORDERING);
 }

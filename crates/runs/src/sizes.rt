@@ -1,81 +1,19 @@
 // Rows 1 to 4 of document 01's table, and the largest traces: reads by task 0 in slices of many lengths.
-use crate::compare::CLEAN;
-use crate::compare::MISMATCH;
-use crate::compare::REFUSED;
-use crate::compare::asking;
 use crate::compare::compare;
-use crate::compare::judging;
-use crate::compare::make_reply;
-use crate::compare::same_reply;
-use crate::table::read_table;
-use cells::get;
+use calls::CLEAN;
+use calls::MISMATCH;
+use calls::REFUSED;
+use calls::asking;
+use calls::judging;
+use calls::lengths::lengths;
+use calls::lengths::read_runs;
+use calls::lengths::told;
+use calls::make_reply;
+use calls::same_reply;
 use cells::plus;
 use slow::Sizes;
 
 pub const COUNT: usize = 24;
-
-// Of each run the lengths of the six slices, and the row by which it is refused, or 0.
-fn read_runs(cells: &mut [u16]) {
-    read_table(
-        b"
-# kinds 2, tasks 3, operands 3, and the like
-2 3 3 12300 3 3: 1
-3 2 3 12300 3 3: 1
-3 3 2 12300 3 3: 1
-2 2 3 12300 3 3: 1
-0 0 1 12300 3 3: 1
-1 0 0 12300 3 3: 1
-# row 1 before rows 2, 3 and 4
-32769 1 1 0 0 0: 1
-1 2 1 0 0 0: 1
-# 32,769 events, also before rows 3 and 4
-32769 32769 32769 45057 32769 32769: 2
-32769 32769 32769 0 0 0: 2
-# 1 event, 12,288 cells, and the like, also before row 4
-1 1 1 12288 1 1: 3
-1 1 1 0 0 0: 3
-0 0 0 12287 0 0: 3
-32768 32768 32768 45055 32768 32768: 3
-# 1 event, 0 cells, in either buffer
-1 1 1 12289 0 1: 4
-1 1 1 12289 1 0: 4
-1 1 1 12289 0 0: 4
-32768 32768 32768 45056 32767 32768: 4
-32768 32768 32768 45056 32768 32767: 4
-# just enough, and more than enough
-0 0 0 12288 0 0: 0
-0 0 0 12400 7 9: 0
-1 1 1 12289 1 1: 0
-4 4 4 12292 4 4: 0
-4 4 4 13000 90 4: 0
-",
-        cells,
-    );
-}
-
-fn at(cells: &[u16], run: usize, i: usize) -> usize {
-    get(cells, plus((run % 65536) * 7, i))
-}
-
-fn lengths(cells: &[u16], run: usize) -> Sizes {
-    Sizes {
-        kinds: at(cells, run, 0),
-        tasks: at(cells, run, 1),
-        operands: at(cells, run, 2),
-        ws: at(cells, run, 3),
-        first: at(cells, run, 4),
-        second: at(cells, run, 5),
-    }
-}
-
-// The case of the answer.
-fn told(cells: &[u16], run: usize) -> usize {
-    let row = at(cells, run, 6);
-    if row == 0 {
-        return CLEAN;
-    }
-    plus(REFUSED, row)
-}
 
 // "It has no order buffers, so refusal 4 is absent"; rows 1 to 3 are as for the judge. The read at position 0 reaches itself, if it is there.
 fn asked(sizes: Sizes, case: usize, events: &[u16], run: usize, memory: &mut [usize]) -> bool {

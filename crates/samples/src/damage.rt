@@ -13,15 +13,11 @@ use cells::minus;
 use cells::more;
 use cells::plus;
 
-fn is_of_task_0(events: &[u16], p: usize) -> bool {
-    event_at(events, p).task == 0
-}
-
 // The first event of task 0 from p on, or n.
 fn of_task_0(events: &[u16], p: usize, n: usize) -> usize {
     let mut i = p;
     while i < n {
-        if is_of_task_0(events, i) {
+        if event_at(events, i).task == 0 {
             return i;
         }
         i += 1;
@@ -50,6 +46,11 @@ fn with(event: Event, kind: usize, operand: usize) -> Event {
 fn damaged(event: Event, number: usize, used: usize, seed: usize) -> Event {
     match number {
         5 => with(event, too_large(5, 255, seed), event.operand),
+        6 => Event {
+            task: 0,
+            kind: HALT,
+            operand: 0,
+        },
         7 => Event {
             task: below(seed, 1100),
             kind: event.kind,
@@ -63,35 +64,21 @@ fn damaged(event: Event, number: usize, used: usize, seed: usize) -> Event {
     }
 }
 
-fn damage(events: &mut [u16], p: usize, number: usize, seed: usize) {
-    let used = event_at(events, below(seed, more(p))).task;
-    let event = event_at(events, p);
-    put_event(events, p, damaged(event, number, used, seed));
-}
-
-// The first event of task 0 from p on, if there is one, becomes its halt.
-fn end_early(events: &mut [u16], p: usize, n: usize) {
-    let i = of_task_0(events, p, n);
-    if i < n {
-        put_event(
-            events,
-            i,
-            Event {
-                task: 0,
-                kind: HALT,
-                operand: 0,
-            },
-        );
+// Where the damage is done: at p, but for row 6 at the first event of task 0 from p on, which becomes its halt. Where there is none, that is behind the
+// trace.
+fn place(events: &[u16], n: usize, p: usize, number: usize) -> usize {
+    if number == 6 {
+        return of_task_0(events, p, n);
     }
+    p
 }
 
 // Makes event p meet the row of this number, if the events before it fail in nothing.
 fn spoil_at(events: &mut [u16], n: usize, p: usize, number: usize, seed: usize) {
-    if number == 6 {
-        end_early(events, p, n);
-    } else {
-        damage(events, p, number, seed);
-    }
+    let at = place(events, n, p, number);
+    let used = event_at(events, below(seed, more(p))).task;
+    let event = event_at(events, at);
+    put_event(events, at, damaged(event, number, used, seed));
 }
 
 // Damages one of n events, in half of the cases one of the first 20.

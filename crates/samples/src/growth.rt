@@ -217,7 +217,7 @@ fn ends(now: Growth) -> bool {
     if now.depth != 1 {
         return false;
     }
-    if 4095 < now.count {
+    if slow::EVENTS <= now.count {
         return false;
     }
     below(now.seed, 3) == 0

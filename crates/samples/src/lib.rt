@@ -53,7 +53,7 @@ fn spoil(events: &mut [u16], n: usize, seed: usize) {
     }
 }
 
-// Makes the trace of a seed, at most 4,096 events. Answers their number.
+// Makes the trace of a seed, of no more events than the slow judge takes. Answers their number.
 pub fn make(events: &mut [u16], seed: usize) -> usize {
     let mut table = [0u16; 3072];
     let n = tree_or_grown(events, &mut table, seed);

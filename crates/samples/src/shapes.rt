@@ -79,7 +79,7 @@ fn busy(count: usize, locations: usize, care: usize) -> Shape {
 fn count_of(seed: usize) -> usize {
     let r = below(seed, 64);
     if r == 0 {
-        return 4096;
+        return slow::EVENTS;
     }
     if r < 8 {
         return 600;

@@ -89,5 +89,5 @@ pub fn tree(events: &mut [u16], table: &[u16], seed: usize) -> usize {
     let one: usize = 1;
     let tasks = one << (1 + below(seed, 10) % 10);
     let n = sprout_all(events, table, tasks);
-    look_back(events, table, tasks, n, least(plus(n, 100), 4096))
+    look_back(events, table, tasks, n, least(plus(n, 100), slow::EVENTS))
 }

@@ -1,8 +1,8 @@
--- `runs::compare::holds` is safe and ends. The measure is the number of cells that are left. Assumes nothing.
+-- `calls::buffers::holds` is safe and ends. The measure is the number of cells that are left. Assumes nothing.
 use Prim.Native.Nat.{_≤_, _-_}
 use borrow.Author.Needs.{needs}
-use Rattle.runs.proofs.compare.holds.Statement.{statement}
-use Rattle.runs.proofs.compare.holds.Tie as tie
+use Rattle.calls.proofs.buffers.holds.Statement.{statement}
+use Rattle.calls.proofs.buffers.holds.Tie as tie
 
 abbrev Inv-loop : tie.InvT-loop
 Inv-loop cells lent salt memory from first n i₀ i = i ≤ n

@@ -1,10 +1,10 @@
--- `runs::table::read_table` is safe and ends. The measure is the number of bytes that are left. Assumes nothing.
+-- `calls::table::read_table` is safe and ends. The measure is the number of bytes that are left. Assumes nothing.
 use Prim.Native.Nat.{_≤_, _-_}
 use mathlib.Core.Path.{_≡_}
 use borrow.Author.Needs.{needs}
 use lib.ListN.{length}
-use Rattle.runs.proofs.table.read_table.Statement.{statement}
-use Rattle.runs.proofs.table.read_table.Tie as tie
+use Rattle.calls.proofs.table.read_table.Statement.{statement}
+use Rattle.calls.proofs.table.read_table.Tie as tie
 
 abbrev Inv-loop : tie.InvT-loop
 Inv-loop text cells₀ scan₀ i₀ cells scan i = (length cells ≡ length cells₀) × (i ≤ length text)

@@ -1,10 +1,10 @@
--- `runs::compare::soil` is safe and ends. The measure is the number of cells that are left. Assumes nothing.
+-- `calls::buffers::soil` is safe and ends. The measure is the number of cells that are left. Assumes nothing.
 use Prim.Native.Nat.{_-_}
 use mathlib.Core.Path.{_≡_}
 use borrow.Author.Needs.{needs}
 use lib.ListN.{length}
-use Rattle.runs.proofs.compare.soil.Statement.{statement}
-use Rattle.runs.proofs.compare.soil.Tie as tie
+use Rattle.calls.proofs.buffers.soil.Statement.{statement}
+use Rattle.calls.proofs.buffers.soil.Tie as tie
 
 abbrev Inv-loop : tie.InvT-loop
 Inv-loop cells₀ lent salt n i₀ cells i = length cells ≡ length cells₀

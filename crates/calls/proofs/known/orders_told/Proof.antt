@@ -1,8 +1,8 @@
--- `runs::known::orders_told` is safe and ends. The measure is the number of cells that are left. Assumes nothing.
+-- `calls::known::orders_told` is safe and ends. The measure is the number of cells that are left. Assumes nothing.
 use Prim.Native.Nat.{_≤_, _-_}
 use borrow.Author.Needs.{needs}
-use Rattle.runs.proofs.known.orders_told.Statement.{statement}
-use Rattle.runs.proofs.known.orders_told.Tie as tie
+use Rattle.calls.proofs.known.orders_told.Statement.{statement}
+use Rattle.calls.proofs.known.orders_told.Tie as tie
 
 abbrev Inv-loop : tie.InvT-loop
 Inv-loop cells at memory from n i₀ i = i ≤ n

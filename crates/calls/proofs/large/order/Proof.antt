@@ -1,10 +1,10 @@
--- `runs::large::order` is safe and ends. The measure is the number of cells that are left. Assumes nothing.
+-- `calls::large::order` is safe and ends. The measure is the number of cells that are left. Assumes nothing.
 use Prim.Native.Nat.{_-_}
 use mathlib.Core.Path.{_≡_}
 use borrow.Author.Needs.{needs}
 use lib.ListN.{length}
-use Rattle.runs.proofs.large.order.Statement.{statement}
-use Rattle.runs.proofs.large.order.Tie as tie
+use Rattle.calls.proofs.large.order.Statement.{statement}
+use Rattle.calls.proofs.large.order.Tie as tie
 
 abbrev Inv-loop : tie.InvT-loop
 Inv-loop memory₀ from a b i₀ memory i = length memory ≡ length memory₀
