@@ -40,6 +40,7 @@ fn judge(
     ))
 }
 
+// No test returns early: a branch while slices are lent is dear to prove, and a test more after a mismatch does no harm.
 fn judged_in(
     kinds: &[u8],
     tasks: &[u16],
@@ -55,13 +56,9 @@ fn judged_in(
     soil(first, call.sizes.first, call.salt);
     soil(second, call.sizes.second, call.salt);
     let answer = judge(kinds, tasks, operands, ws, first, second, call.sizes);
-    if !same_reply(answer, want) {
-        return false;
-    }
-    if !holds_zeros(ws, call, want, memory) {
-        return false;
-    }
-    holds_orders(first, second, call, want, memory)
+    let zeros = holds_zeros(ws, call, want, memory);
+    let orders = holds_orders(first, second, call, want, memory);
+    same_reply(answer, want) & zeros & orders
 }
 
 // Whether the judge does as wanted. Arrays are lent whole as arrays: as slices each would have its length proved.
@@ -107,10 +104,8 @@ fn ordered_in(
 ) -> bool {
     soil(ws, call.sizes.ws, call.salt);
     let answer = order(kinds, tasks, operands, ws, call);
-    if !same_reply(answer, want) {
-        return false;
-    }
-    holds_zeros(ws, call, want, memory)
+    let zeros = holds_zeros(ws, call, want, memory);
+    same_reply(answer, want) & zeros
 }
 
 // Whether the ordering call does as wanted.

@@ -36,13 +36,9 @@ fn pairs_agree(events: &[u16], n: usize, memory: &mut [usize]) -> bool {
 fn agrees(cells: &[u16], at: usize, events: &[u16], memory: &mut [usize]) -> bool {
     let n = get(cells, at);
     let answer = compare(events, judging(roomy(n), at), memory);
-    if !same_reply(answer, told(cells, at)) {
-        return false;
-    }
-    if !orders_told(cells, at, memory) {
-        return false;
-    }
-    pairs_agree(events, n, memory)
+    let orders = orders_told(cells, at, memory);
+    let pairs = pairs_agree(events, n, memory);
+    same_reply(answer, told(cells, at)) & orders & pairs
 }
 
 fn run_agrees(cells: &[u16], at: usize, memory: &mut [usize]) -> bool {

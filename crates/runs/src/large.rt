@@ -30,18 +30,26 @@ fn race(events: &[u16], memory: &mut [usize]) -> bool {
     answers(events, judging(make_reply(RACE, 1, 32767)), memory)
 }
 
-// The race, and that the fork reaches the last event and the child's write does not: how many hold, one after the other.
-fn race_and_pairs(events: &[u16], memory: &mut [usize]) -> usize {
-    if !race(events, memory) {
+// How many of three hold, one after the other.
+fn held(first: bool, second: bool, third: bool) -> usize {
+    if !first {
         return 0;
     }
-    if !answers(events, asking(0, YES), memory) {
+    if !second {
         return 1;
     }
-    if !answers(events, asking(1, NO), memory) {
+    if !third {
         return 2;
     }
     3
+}
+
+// The race, and that the fork reaches the last event and the child's write does not: how many hold, one after the other.
+fn race_and_pairs(events: &[u16], memory: &mut [usize]) -> usize {
+    let first = race(events, memory);
+    let second = answers(events, asking(0, YES), memory);
+    let third = answers(events, asking(1, NO), memory);
+    held(first, second, third)
 }
 
 fn on_race_in(events: &mut [u16; 98304], memory: &mut [usize]) -> usize {
@@ -58,8 +66,7 @@ pub const COUNT: usize = 4;
 
 // How many of these came out as written here, one after the other.
 pub fn agreed(memory: &mut [usize]) -> usize {
-    if !reads(memory) {
-        return 0;
-    }
-    more(on_race(memory))
+    let clean = reads(memory);
+    let others = on_race(memory);
+    if clean { more(others) } else { 0 }
 }

@@ -31,10 +31,8 @@ fn agrees(cells: &[u16], run: usize, events: &[u16], memory: &mut [usize]) -> bo
     let sizes = lengths(cells, run);
     let case = told(cells, run);
     let answer = compare(events, judging(sizes, run), memory);
-    if !same_reply(answer, make_reply(case, 0, 0)) {
-        return false;
-    }
-    asked(sizes, case, events, run, memory)
+    let also = asked(sizes, case, events, run, memory);
+    same_reply(answer, make_reply(case, 0, 0)) & also
 }
 
 fn go_through(cells: &[u16], events: &[u16], memory: &mut [usize]) -> usize {
