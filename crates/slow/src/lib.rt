@@ -1,9 +1,9 @@
 // The slow judge and the slow ordering call: document 01 taken at its word, with no part of the fast ones. Of `trace` it uses the answer types alone.
 mod events;
-mod line;
 mod memory;
 mod paths;
 mod races;
+mod rules;
 
 use events::Event;
 use events::event_at;
@@ -57,7 +57,7 @@ fn take(
     q: usize,
 ) -> Outcome {
     let event = event_at(kinds, tasks, operands, q);
-    let number = line::row(kinds, operands, memory, running, event, q);
+    let number = rules::row(kinds, operands, memory, running, event, q);
     if number != 0 {
         return Outcome::Failed(refused(number, q));
     }
@@ -65,7 +65,7 @@ fn take(
     if s < q {
         return Outcome::Failed(Answer::Race(s, q));
     }
-    Outcome::Passed(line::after(memory, event))
+    Outcome::Passed(rules::after(memory, event))
 }
 
 // "Events are taken in position order. .. The first failure decides". Where races are not asked for, only the line rules can fail.
@@ -76,7 +76,7 @@ fn take_all(
     memory: &mut [usize],
     racing: bool,
 ) -> Answer {
-    line::start(memory);
+    rules::start(memory);
     let mut running = 0;
     let mut q = 0;
     while q < kinds.len() {
