@@ -1,8 +1,7 @@
 -- Answers to go by, computed from the bytes of a text to the bytes of the whole output: document 01's example, no text, and a refusal of each kind.
 -- Assumes nothing.
-use Prim.Native.Nat.{ℕ}
 use mathlib.Core.Path.{_≡_, refl}
-use mathlib.Core.List.{List, [], _∷_}
+use mathlib.Core.List.{[], _∷_}
 use Rattle.trace.specs.Trace.{traceOf, isKind, isAccess}
 use Rattle.trace.specs.Race.{conflicting}
 use Rattle.trace.specs.Line.{row, start, isEmpty, isHead, isMember, isLeftOf, putLeftOf, remove, forked, joined, halted, stepByKind, step}

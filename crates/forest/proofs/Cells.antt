@@ -1,9 +1,8 @@
 -- Laws of cleared cells: what they hold, and that earlier stores to them do not matter. Assumes nothing.
 use Prim.Native.Nat.{ℕ, _+_, _≤_, _<_}
-use mathlib.Core.Path.{_≡_, refl, ap}
-use mathlib.Core.List.{List, _++_}
-use lib.ListN.{length, getD, set, replicate}
-use lib.Seq.{drop-set-lt}
+use mathlib.Core.Path.{_≡_, refl}
+use mathlib.Core.List.{List}
+use lib.ListN.{length, getD}
 use Rattle.trace.specs.Trace.{WORKSPACE-CELLS}
 use Rattle.trace.specs.Outcome.{cleared}
 use Rattle.trace.proofs.Lists.{length-zeros-drop, getD-zeros-drop-below, getD-zeros-drop-beyond}
@@ -22,11 +21,6 @@ zeroed-below n c i l = getD-zeros-drop-below n c i l
 pub zeroed-beyond : (n : ℕ) (c : List ℕ) (i : ℕ) → n ≤ i → getD (zeroed n c) i 0 ≡ getD c i 0
 unfolding zeroed
 zeroed-beyond n c i l = getD-zeros-drop-beyond n c i l
-
--- A store to a cell that is cleared later leaves no trace.
-pub zeroed-set : (n : ℕ) (c : List ℕ) (i v : ℕ) → i < n → zeroed n (set c i v) ≡ zeroed n c
-unfolding zeroed
-zeroed-set n c i v l = ap (λ (rest : List ℕ). replicate n 0 ++ rest) (drop-set-lt n c i v l)
 
 -- The workspace that the documents ask for after a trace of n events.
 pub zeroed-cleared : (n : ℕ) (c : List ℕ) → zeroed (WORKSPACE-CELLS + n) c ≡ cleared n c

@@ -69,11 +69,5 @@ module _ {c : List ℕ} (f : Forest c) (i v : ℕ) (beyond : FOREST-CELLS ≤ i)
   pub forest-set : Forest (set c i v)
   forest-set = forest-frame f same-tables-set
 
-  pub is-top-set : (h : ℕ) → IsTop c h ↔ IsTop (set c i v) h
-  is-top-set = is-top-frame f same-tables-set
-
   pub top-set : (t : ℕ) → t < TASKS → topOf (set c i v) t ≡ topOf c t
   top-set = top-frame f same-tables-set
-
-  pub links-set : (t : ℕ) → t < TASKS → linksOf (set c i v) t ≡ linksOf c t
-  links-set = links-frame f same-tables-set

@@ -1,10 +1,10 @@
 -- Laws of the tops of a forest: a top is its own top, few links lead to it, and its size is the number of its tasks. Assumes nothing.
-use Prim.Native.Nat.{ℕ, suc, _≤_, _<_, _^_}
+use Prim.Native.Nat.{ℕ, suc, _<_}
 use mathlib.Core.Path.{_≡_, sym, ap, _∙_}
 use mathlib.Core.List.{List}
 use native.Mathlib.Omega.{arith}
 use Rattle.trace.specs.Trace.{TASKS}
-use Rattle.forest.specs.Forest.{link, size, top, topOf, linksOf, tasksUnder, IsTop, Forest}
+use Rattle.forest.specs.Forest.{link, top, topOf, linksOf, IsTop, Forest}
 use Rattle.forest.proofs.Chains.{chain-top, chain-links, chain-is-top, chain-rest, links-few}
 
 -- A top is its own top, no link away.
@@ -32,10 +32,3 @@ module _ {c : List ℕ} (f : Forest c) (t : ℕ) (below : t < TASKS) where
   links-parent e =
       let rest = chain-rest (f .ends t below) e in
       rest .1 ∙ ap suc (sym (chain-links (rest .2) (omega (arith, rest .1, links-few c t))))
-
-  -- The size of a task's top is the number of tasks that have this top, and at least 2 to the power of the links between.
-  pub size-top : size c (topOf c t) ≡ tasksUnder c (topOf c t)
-  size-top = f .counted (topOf c t) top-is-top
-
-  pub tasks-doubled : 2 ^ linksOf c t ≤ tasksUnder c (topOf c t)
-  tasks-doubled = omega (arith, f .doubled t below, size-top)

@@ -7,9 +7,6 @@ ghost use Rattle.trace.specs.Trace.{TASKS};
 ghost use Rattle.forest.specs.Cells.{zeroed};
 ghost use Rattle.forest.specs.Forest.{Forest, Found, Attachable, attached, Unitable, UnionResult};
 
-// Tasks are numbered from 0 to 1,023, and a table has a cell for each.
-pub const TASKS: u16 = 1024;
-
 // Table 0, the links: 0 where a task is a top, else its parent + 1.
 pub const LINK: usize = 0;
 

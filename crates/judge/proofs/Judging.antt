@@ -11,7 +11,7 @@ use Rattle.trace.specs.declared.Answer.{Answer}
 use Rattle.trace.specs.declared.Answer.the-variants.{Clean, Race, Refused}
 use Rattle.trace.specs.Trace.{Trace, traceOf, MAX-EVENTS, WORKSPACE-CELLS}
 use Rattle.trace.specs.Line.{Checked, passes, fails, row, haltOperand}
-use Rattle.trace.specs.Outcome.{race, judgement, firstFailure, atEnd, orAtEnd, sizes, orderRoom, cleared, Outcome, firstOrder, secondOrder, judgeChecked, judgeOutcome}
+use Rattle.trace.specs.Outcome.{judgement, firstFailure, atEnd, orAtEnd, sizes, orderRoom, cleared, Outcome, firstOrder, secondOrder, judgeChecked, judgeOutcome}
 use Rattle.trace.specs.Answers.{judgeReply}
 use Rattle.trace.specs.Demands.{JudgeDemand1, JudgeDemand2, JudgeDemand3}
 use Rattle.trace.proofs.Lines.{by-check}

@@ -1,6 +1,6 @@
 -- One event's step in the cells is the document's step: where the line in the cells is that of the first n events, the step at event n leaves the line of
 -- the first n + 1, or refuses by the row that event n meets. Assumes nothing.
-use Prim.Native.Nat.{ℕ, suc, _+_, _-_, _<_, _≤_}
+use Prim.Native.Nat.{ℕ, suc, _-_, _<_, _≤_}
 use mathlib.Core.Path.{_≡_, refl, sym, ap, subst, _∙_}
 use mathlib.Core.Bool.{Bool, true, false, not, true≢false, false≢true}
 use mathlib.Core.List.{List, [], _∷_}
@@ -21,7 +21,7 @@ use Rattle.forest.specs.Forest.{topOf, stays}
 use Rattle.forest.proofs.Tops.{top-is-top}
 use Rattle.forest.proofs.United.{is-top-stays}
 use Rattle.line.specs.declared.Line.{Line}
-use Rattle.line.specs.declared.Rule.the-variants.{Join}
+use Rattle.line.specs.declared.Rule.the-variants.{Access, Join}
 use Rattle.line.specs.Rules.{ruleOf}
 use Rattle.line.specs.Cells.{depths, runningIn, nearestIn, isUsedIn, startedIn, joinedIn}
 use Rattle.line.specs.Steps.{Stepped, goes, rowed, Movable, rowIn, locationIn, forkIn, joinIn, haltIn, actIn, eventIn}
@@ -67,6 +67,30 @@ movable c exit line next row kind task a sound e none =
           let join : actIn c line Join a .result ≡ passes next = rw (← rule-join kind k) at (seven .1) in
           let some = eqb-false (line .left) 0 (row-kept c 11 _ _ next join .0) in
           omega arith;
+    }
+
+-- An access that keeps the rules is of the running task and of a location, and leaves the cells.
+pub record Kept (c : List ℕ) (line : Line) (x a : ℕ) (exit : List ℕ) : Type 0 where
+  pub active : line .active ≢ 0
+  pub running : x ≡ runningIn c line
+  pub location : a < LOCATIONS
+  pub cells : exit ≡ c
+
+pub access-kept :
+    (c : List ℕ) (line next : Line) (kind x a : ℕ) → isAccess kind ≡ true → eventIn c line kind x a .result ≡ passes next
+    → Kept c line x a (eventIn c line kind x a .cells)
+unfolding eventIn ruleOf actIn locationIn
+access-kept c line next kind x a is e =
+    let five = row-kept c 5 _ _ next e in
+    let six = row-kept c 6 _ _ next (five .1) in
+    let seven = row-kept c 7 _ _ next (six .1) in
+    let rule : actIn c line (ruleOf kind) a ≡ actIn c line Access a = rw is in
+    let eight = row-kept c 8 _ (goes line c) next (sym (ap (λ (s : Stepped). s .result) rule) ∙ seven .1) in
+    record {
+      active = eqb-false (line .active) 0 (six .0);
+      running = eqb-true x (runningIn c line) (not-false _ (seven .0));
+      location = leb-false LOCATIONS a (eight .0);
+      cells = five .2 ∙ (six .2 ∙ (seven .2 ∙ (ap (λ (s : Stepped). s .cells) rule ∙ eight .2)));
     }
 
 -- ---- the laws

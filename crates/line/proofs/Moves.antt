@@ -14,7 +14,7 @@ use Rattle.trace.proofs.Tests.{either, same-or-not, Tests, tests-map}
 use Rattle.trace.proofs.Stacks.{In, in-eq, rename, rename-same, rename-other}
 use Rattle.trace.proofs.Run.{DistinctStacks}
 use Rattle.forest.specs.Cells.{zeroed}
-use Rattle.forest.specs.Forest.{FOREST-CELLS, topOf, united, stays, Unitable}
+use Rattle.forest.specs.Forest.{FOREST-CELLS, Forest, topOf, united, stays, Unitable}
 use Rattle.forest.proofs.Cells.{zeroed-length, zeroed-below}
 use Rattle.forest.proofs.Tops.{top-is-top}
 use Rattle.forest.proofs.Start.{top-start, forest-start}
@@ -48,6 +48,13 @@ nearest-is {c = c} {line = line} {left = left} l =
 
 -- ---- the frame: cells outside the line's own tables do not matter to it
 
+-- A flag is as it was where its table and the forest are.
+pub left-frame :
+    {c d : List ℕ} → Forest c → SameTables c d → ((i : ℕ) → i < TASKS → getD d (IN-LEFT + i) 0 ≡ getD c (IN-LEFT + i) 0) → (t : ℕ) → t < TASKS
+    → isLeftIn d t ≡ isLeftIn c t
+unfolding isLeftIn
+left-frame {c} f tables same t h = rw (top-frame f tables t h, same (topOf c t) (top-is-top f t h .below))
+
 -- A cell of the tables that hold the line.
 abbrev pub OfLine : ℕ → Type 0
 OfLine i = (i < USED + TASKS) ⊎ ((LEFT ≤ i) × (i < ACTIVE + TASKS))
@@ -69,9 +76,7 @@ module _ {c d : List ℕ} {line : Line} {left active used : List ℕ} {group : �
         active-cells = stack-frame c d ACTIVE active (λ i h. same (ACTIVE + i) (inr (omega arith, omega arith))) (l .active-cells);
         used-cells = λ t h. rw (same (USED + t) (inl (omega arith))) (l .used-cells t h);
         one-top = λ t u h k. rw (top-frame (l .forest) tables t h, top-frame (l .forest) tables u k) (l .one-top t u h k);
-        flags = λ t h.
-            let small = top-is-top (l .forest) t h .below in
-            rw (top-frame (l .forest) tables t h, same (IN-LEFT + topOf c t) (inl (omega arith))) (l .flags t h);
+        flags = λ t h. rw (left-frame (l .forest) tables (λ i k. same (IN-LEFT + i) (inl (omega arith))) t h) (l .flags t h);
       }
 
 -- ---- the start

@@ -58,9 +58,16 @@ pub sized-rest :
 sized-rest r s = sized-same s (r .long)
 
 -- The starting line.
-pub rest-started : (n : ℕ) (c : List ℕ) → WORKSPACE-CELLS + n ≤ length c → Rest n c (startedIn c)
+pub beyond-start : (c : List ℕ) → WORKSPACE-CELLS ≤ length c → SameBeyond c (startedIn c)
 unfolding startedIn
-rest-started n c room =
-    rest-set {d = set (zeroed CLEARED c) (USED + 0) 1} (ACTIVE + 0) 0 (omega arith)
-    (rest-set {d = zeroed CLEARED c} (USED + 0) 1 (omega arith)
-    (record { long = zeroed-length CLEARED c (omega arith); same = λ i h. zeroed-beyond CLEARED c i (omega arith) }))
+beyond-start c room =
+    let zeros = zeroed CLEARED c in
+    record {
+      long = simp length-set (zeroed-length CLEARED c (omega arith));
+      same = λ i h.
+          getD-set-other (set zeros (USED + 0) 1) (ACTIVE + 0) i 0 0 (omega arith)
+          ∙ (getD-set-other zeros (USED + 0) i 1 0 (omega arith) ∙ zeroed-beyond CLEARED c i (omega arith));
+    }
+
+pub rest-started : (n : ℕ) (c : List ℕ) → WORKSPACE-CELLS + n ≤ length c → Rest n c (startedIn c)
+rest-started n c room = rest-beyond n (beyond-start c (omega arith))

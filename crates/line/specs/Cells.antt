@@ -18,7 +18,7 @@ IN-LEFT = 2048
 abbrev pub USED : ℕ
 USED = 3072
 
--- For each location the task that a read of it is held against, and the task that a write is.
+-- For each location a task of the group that a read of it is held against, and one of the group that a write is.
 abbrev pub AGAINST-READ : ℕ
 AGAINST-READ = 4096
 

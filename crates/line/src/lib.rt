@@ -159,7 +159,7 @@ pub fn rule_of(kind: u8) -> Rule
     }
 }
 
-// The rows below answer the row that is met, or 0: a plain number, which comes back in a register. A line that came back through memory, field by field, would
+// The functions below answer the row that is met, or 0: a plain number, which comes back in a register. A line that came back through memory, field by field, would
 // be waited for at every event.
 
 // Row 8.
@@ -276,7 +276,7 @@ pub fn after(line: Line, kind: u8) -> Line
 }
 
 // The table that an access stores to beside AGAINST_WRITE. A read has none: it stores to AGAINST_WRITE again, which costs less than a branch on the kind that
-// no processor can foretell.
+// no processor can predict.
 fn second_table(kind: u8) -> usize
     ensures { λ r. ⌜ (r ≡ secondTable kind) × (r ≤ AGAINST-WRITE) ⌝ }
 {
@@ -297,8 +297,8 @@ fn settle(ws: &mut [u16], own: u16, kind: u8, location: u16)
 
 // The group that a write is held against is left of the running task, so a write races, and a read does if the group that it is held against is left too.
 // Else both groups stay; each is named by its top from now on, so that the next search is short.
-fn behind(ws: &mut [u16], own: u16, top: u16, kind: u8, location: u16) -> bool
-    requires { ⌜ Accessible (now ws) own location ⌝ }
+fn behind(ws: &mut [u16], top: u16, kind: u8, location: u16) -> bool
+    requires { ⌜ Accessible (now ws) top location ⌝ }
     requires { ⌜ top ≡ topOf (now ws) (againstWrite (now ws) location) ⌝ }
     ensures { λ r. ⌜ accessed r (now (ws .exit)) ≡ behindIn (now (ws .entry)) kind location ⌝ }
 {
@@ -328,7 +328,7 @@ pub fn access(ws: &mut [u16], own: u16, kind: u8, location: u16) -> bool
     }
     let top = top_of(ws, other);
     if forest::cell(ws, IN_LEFT, top) != 0 {
-        return behind(ws, own, top, kind, location);
+        return behind(ws, top, kind, location);
     }
     settle(ws, own, kind, location);
     true

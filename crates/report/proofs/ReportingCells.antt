@@ -11,10 +11,10 @@ use lib.Seq.{getD-set-same, getD-set-other}
 use borrow.Author.Tests.{ne-eqb}
 use Rattle.trace.specs.Trace.{TASKS, WORKSPACE-CELLS}
 use Rattle.trace.proofs.Tests.{either, same-or-not}
-use Rattle.forest.specs.Forest.{Forest, topOf}
-use Rattle.forest.proofs.Tops.{top-is-top}
-use Rattle.forest.proofs.Frame.{SameTables, top-frame, forest-frame}
+use Rattle.forest.specs.Forest.{Forest}
+use Rattle.forest.proofs.Frame.{SameTables, forest-frame}
 use Rattle.line.specs.Cells.{IN-LEFT, isLeftIn}
+use Rattle.line.proofs.Moves.{left-frame}
 use Rattle.report.specs.Reports.{LIVE, MARK, Filled, liveIn, liveAt, addedAt}
 
 -- Before the first turn.
@@ -72,10 +72,8 @@ module _ {k : ℕ} {value : ℕ → ℕ} {c d : List ℕ} (room : WORKSPACE-CELL
   forest-filled = forest-frame forest tables
 
   pub live-filled : (task : ℕ) → task < TASKS → liveIn d task ≡ liveIn c task
-  unfolding liveIn isLeftIn
-  live-filled task h =
-      let small = top-is-top forest task h .below in
-      rw (top-frame forest tables task h, f .same (IN-LEFT + topOf c task) (inl (omega arith)))
+  unfolding liveIn
+  live-filled task h = rw (left-frame forest tables (λ i k. f .same (IN-LEFT + i) (inl (omega arith))) task h)
 
 -- ---- marks that are added
 

@@ -1,14 +1,13 @@
 -- The line rules over a part of a trace: accesses of the running task leave the line as it is, and one event more is the document's step. Assumes nothing.
 use Prim.Native.Nat.{ℕ, zero, suc, _+_, _<_, _≤_}
-use mathlib.Core.Path.{_≡_, refl, sym, ap, subst, _∙_}
+use mathlib.Core.Path.{_≡_, sym, ap, subst, _∙_}
 use mathlib.Core.Bool.{true}
-use mathlib.Core.List.{List, [], _∷_}
-use mathlib.Core.Logic.{inl, inr, _≢_}
+use mathlib.Core.List.{List, _∷_}
+use mathlib.Core.Logic.{_≢_}
 use native.Mathlib.Omega.{arith}
 use native.Mathlib.Numerals.{add-one}
-use lib.ListN.{length, getD, set, length-set}
-use lib.Seq.{getD-set-other}
-use Rattle.trace.specs.Trace.{Trace, traceOf, READ, WRITE, isAccess, LOCATIONS, WORKSPACE-CELLS}
+use lib.ListN.{length, getD}
+use Rattle.trace.specs.Trace.{Trace, traceOf, WRITE, isAccess, LOCATIONS, WORKSPACE-CELLS}
 use Rattle.trace.specs.Line.{fails, haltOperand, lineAfter}
 use Rattle.trace.specs.Demands.{BreaksFirst}
 use Rattle.trace.proofs.Tests.{either, last-or-below}
@@ -17,14 +16,11 @@ use Rattle.trace.proofs.Stacks.{updated}
 use Rattle.trace.proofs.Run.{Run, access, lineOf}
 use Rattle.trace.proofs.TwoStacks.{line-of}
 use Rattle.trace.proofs.Lines.{line-more}
-use Rattle.trace.proofs.Sizes.{Sized}
-use Rattle.forest.specs.Cells.{zeroed}
-use Rattle.forest.proofs.Cells.{zeroed-length, zeroed-beyond}
 use Rattle.line.specs.declared.Line.{Line}
-use Rattle.line.specs.Cells.{USED, ACTIVE, CLEARED, depths, runningIn, startedIn}
+use Rattle.line.specs.Cells.{depths, runningIn, startedIn}
 use Rattle.line.specs.Steps.{Stepped, goes, rowed, eventIn}
 use Rattle.line.specs.Held.{SameBeyond, LineCells, LineAt}
-use Rattle.line.proofs.Rests.{beyond-refl, beyond-trans}
+use Rattle.line.proofs.Rests.{beyond-refl, beyond-trans, beyond-start}
 use Rattle.line.proofs.Moves.{running-first}
 use Rattle.line.proofs.EventLaw.{row-none, row-some, line-start, Agrees, event-law}
 use Rattle.rules.specs.declared.Step.{Step}
@@ -34,17 +30,6 @@ use Rattle.rules.specs.declared.Walked.the-variants.{Held, Broken}
 use Rattle.rules.specs.Walks.{Plain, LineKept, EventSays, WalkSays}
 
 -- ---- the start
-
-beyond-start : (c : List ℕ) → WORKSPACE-CELLS ≤ length c → SameBeyond c (startedIn c)
-unfolding startedIn
-beyond-start c room =
-    let zeros = zeroed CLEARED c in
-    record {
-      long = simp length-set (zeroed-length CLEARED c (omega arith));
-      same = λ i h.
-          getD-set-other (set zeros (USED + 0) 1) (ACTIVE + 0) i 0 0 (omega arith)
-          ∙ (getD-set-other zeros (USED + 0) i 1 0 (omega arith) ∙ zeroed-beyond CLEARED c i (omega arith));
-    }
 
 -- The starting line is that before event 0, and no cell past the tables changes.
 module _ (c : List ℕ) {exit : List ℕ} (room : WORKSPACE-CELLS ≤ length c) (started : exit ≡ startedIn c) where

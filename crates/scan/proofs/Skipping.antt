@@ -1,5 +1,5 @@
 -- The access loop: what one access that passes leaves, and what the loop has taken so far. Assumes nothing.
-use Prim.Native.Nat.{ℕ, zero, suc, _+_, _<_, _≤_}
+use Prim.Native.Nat.{ℕ, suc, _+_, _<_, _≤_}
 use mathlib.Core.Path.{_≡_, refl, sym, ap, subst, _∙_}
 use mathlib.Core.Bool.{Bool, true, false, true≢false}
 use mathlib.Core.List.{List, _∷_}
@@ -7,7 +7,7 @@ use native.Mathlib.Omega.{arith}
 use native.Mathlib.Numerals.{add-one}
 use lib.ListN.{length, getD}
 use Rattle.trace.specs.Trace.{Trace, traceOf, isAccess, LOCATIONS}
-use Rattle.trace.specs.Line.{passes, haltOperand}
+use Rattle.trace.specs.Line.{haltOperand}
 use Rattle.trace.specs.Race.{Race}
 use Rattle.trace.specs.Demands.{NoRaceBefore, graphOf}
 use Rattle.trace.proofs.Tests.{either, last-or-below}

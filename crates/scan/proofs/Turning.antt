@@ -1,30 +1,27 @@
 -- One event that is no access that passes: it breaks a rule, or it races, or the line goes on. Assumes nothing.
 use Prim.Native.Nat.{ℕ, suc, _+_, _<_, _≤_}
 use mathlib.Core.Path.{_≡_, refl, sym, ap, subst, _∙_}
-use mathlib.Core.Bool.{Bool, true, false}
+use mathlib.Core.Bool.{true}
 use mathlib.Core.List.{List, [], _∷_}
 use mathlib.Core.Logic.{inl, _≢_}
 use native.Mathlib.Omega.{arith}
 use native.Mathlib.Numerals.{add-one}
 use lib.ListN.{length, getD}
-use borrow.Author.Tests.{eqb-true, eqb-false, leb-false, not-false}
 use Rattle.trace.specs.Trace.{Trace, traceOf, isAccess, TASKS, LOCATIONS}
 use Rattle.trace.specs.Line.{Checked, passes, fails, haltOperand, lineAfter}
 use Rattle.trace.specs.Race.{Race}
 use Rattle.trace.specs.Demands.{graphOf, IsRefused}
-use Rattle.trace.proofs.Lines.{line-more, passes-not-fails}
+use Rattle.trace.proofs.Lines.{line-more}
 use Rattle.trace.proofs.Sizes.{Sized}
 use Rattle.trace.proofs.Run.{Run, lineOf, in-line-small}
 use Rattle.trace.proofs.TwoStacks.{line-of}
 use Rattle.forest.specs.Forest.{topOf}
 use Rattle.line.specs.declared.Line.{Line}
-use Rattle.line.specs.declared.Rule.the-variants.{Access}
-use Rattle.line.specs.Rules.{ruleOf}
 use Rattle.line.specs.Cells.{runningIn}
-use Rattle.line.specs.Steps.{Stepped, goes, rowed, locationIn, actIn, eventIn}
-use Rattle.line.specs.Held.{LineCells, LineAt, Sound, Rest}
+use Rattle.line.specs.Steps.{Stepped, rowed, eventIn}
+use Rattle.line.specs.Held.{LineCells, LineAt, Rest}
 use Rattle.line.proofs.Moves.{running-is, running-first}
-use Rattle.line.proofs.EventLaw.{row-none, row-some, row-kept, Agrees, event-law}
+use Rattle.line.proofs.EventLaw.{row-none, row-some, access-kept, Agrees, event-law}
 use Rattle.line.proofs.AccessLaw.{top-group}
 use Rattle.scan.specs.State.{JudgeAt, RunningAt, SomeRunning, Raced, Stops, Skipped, StopsHere, StoppedAt, SkippedTo, RaceAt}
 use Rattle.scan.specs.declared.Taken.{Taken}
@@ -35,32 +32,6 @@ use Rattle.scan.specs.Turns.{TurnSays, FoundSays}
 use Rattle.line.proofs.Rests.{rest-eq, rest-refl, rest-trans, rest-beyond, sized-rest}
 use Rattle.trace.proofs.EventKinds.{below-two-access, access-below-two}
 use Rattle.scan.proofs.Skipping.{no-race-next}
-
--- ---- an access that keeps the rules
-
--- It is of the running task and of a location, and leaves the cells.
-pub record Kept (c : List ℕ) (line : Line) (x a : ℕ) (exit : List ℕ) : Type 0 where
-  pub active : line .active ≢ 0
-  pub running : x ≡ runningIn c line
-  pub location : a < LOCATIONS
-  pub cells : exit ≡ c
-
-pub access-kept :
-    (c : List ℕ) (line next : Line) (kind x a : ℕ) → isAccess kind ≡ true → eventIn c line kind x a .result ≡ passes next
-    → Kept c line x a (eventIn c line kind x a .cells)
-unfolding eventIn ruleOf actIn locationIn
-access-kept c line next kind x a is e =
-    let five = row-kept c 5 _ _ next e in
-    let six = row-kept c 6 _ _ next (five .1) in
-    let seven = row-kept c 7 _ _ next (six .1) in
-    let rule : actIn c line (ruleOf kind) a ≡ actIn c line Access a = rw is in
-    let eight = row-kept c 8 _ (goes line c) next (sym (ap (λ (s : Stepped). s .result) rule) ∙ seven .1) in
-    record {
-      active = eqb-false (line .active) 0 (six .0);
-      running = eqb-true x (runningIn c line) (not-false _ (seven .0));
-      location = leb-false LOCATIONS a (eight .0);
-      cells = five .2 ∙ (six .2 ∙ (seven .2 ∙ (ap (λ (s : Stepped). s .cells) rule ∙ eight .2)));
-    }
 
 -- ---- the three outcomes
 
@@ -134,10 +105,7 @@ module _ {tr : Trace} {n i : ℕ} {c : List ℕ} {line : Line} (stopped : Stoppe
           stops-running (j .at .active) (stopped .stops) x paused e is
           (running ∙ running-is (subst (λ (a : List ℕ). LineCells c line (j .at .left) a (j .at .used) (j .at .group)) e (j .at .cells))) location
 
--- ---- the answers of `advance`, `turn` and `run`, over the lent lists
-
-pub sound-at : {tr : Trace} {i : ℕ} {c : List ℕ} {line : Line} → LineAt tr i c line → Sound c line
-sound-at {tr = tr} {i = i} at = record { trace = tr; events = i; at = at }
+-- ---- the answers of `take_accesses`, `turn` and `run`, over the lent lists
 
 module _ {tr : Trace} {n from : ℕ} {c : List ℕ} {line : Line} (j : JudgeAt tr n from c line) where
   -- the active tasks, by how many there are
@@ -145,8 +113,8 @@ module _ {tr : Trace} {n from : ℕ} {c : List ℕ} {line : Line} (j : JudgeAt t
   stops-none [] e = tt
   stops-none (x ∷ paused) e = absurd (omega arith)
 
-  pub advance-none : line .active ≡ 0 → from ≤ n → SkippedTo tr n from c c line from
-  advance-none e h =
+  pub accesses-none : line .active ≡ 0 → from ≤ n → SkippedTo tr n from c c line from
+  accesses-none e h =
       record {
         later = omega arith;
         within = h;
@@ -159,8 +127,8 @@ module _ {tr : Trace} {n from : ℕ} {c : List ℕ} {line : Line} (j : JudgeAt t
     active-tasks : (paused : List ℕ) × (j .at .active ≡ x ∷ paused)
     active-tasks = running-first (j .at .active) (j .at .cells) nonempty e
 
-    pub advance-below : x < TASKS
-    advance-below =
+    pub accesses-below : x < TASKS
+    accesses-below =
         in-line-small haltOperand tr
         (subst (λ (a : List ℕ). Run haltOperand tr from (j .at .left) a (j .at .used) (j .at .group) (j .at .last)) (active-tasks .1) (j .at .run)) x
         (inl (inl refl))
@@ -173,14 +141,14 @@ module _ {tr : Trace} {n from : ℕ} {c : List ℕ} {line : Line} (j : JudgeAt t
             paused = active-tasks .0;
             active = active-tasks .1;
             small = found .1;
-            of-group = top-group (j .at .cells) x advance-below ∙ ap (j .at .group) (sym (found .0));
+            of-group = top-group (j .at .cells) x accesses-below ∙ ap (j .at .group) (sym (found .0));
           }
 
-      pub advance-runs : SomeRunning tr n from c x top
-      advance-runs = record { line = line; at = running-at }
+      pub accesses-runs : SomeRunning tr n from c x top
+      accesses-runs = record { line = line; at = running-at }
 
-      pub advance-skips : (r : ℕ) (exit : List ℕ) → Skipped tr n from c exit x top r → SkippedTo tr n from c exit line r
-      advance-skips r exit s =
+      pub accesses-skips : (r : ℕ) (exit : List ℕ) → Skipped tr n from c exit x top r → SkippedTo tr n from c exit line r
+      accesses-skips r exit s =
           let at = s .moves line running-at in
           record {
             later = s .later;

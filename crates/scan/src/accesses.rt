@@ -1,6 +1,5 @@
-// The access loop. It carries no line state: from one position on, the accesses of the running task x that pass. While x runs no groups become one, so its
-// top is found once, before the loop, and is what the locations then name.
-ghost use mathlib.Core.Path.{_≡_};
+// The access loop. It carries no line state: from one position on, the accesses of the running task x that pass. Accesses make no
+// two groups one, so the top of x is found once, before the loop, and is what the locations then name.
 ghost use Prim.Native.Nat.{_+_, _≤_, _<_};
 ghost use lib.ListN.{length};
 ghost use Rattle.trace.specs.Trace.{traceOf};

@@ -1,5 +1,4 @@
 // The main loop of the judge: the events in position order, each held to the rules and then to the race test.
-ghost use mathlib.Core.Path.{_≡_};
 ghost use Prim.Native.Nat.{_+_, _≤_, _<_};
 ghost use lib.ListN.{length};
 ghost use Rattle.trace.specs.Trace.{traceOf};
@@ -10,7 +9,7 @@ use line::Line;
 
 mod accesses;
 
-// What an event leads to that is no access that passes.
+// What one event leads to, where it is no access that passes.
 pub enum Taken {
     Next(Line),
     Broken(usize),
@@ -25,7 +24,7 @@ pub enum Found {
 }
 
 // The position of the first event from `from` on that is no access of the running task that passes; `from` where task 0 has halted.
-fn advance(
+fn take_accesses(
     kinds: &[u8],
     tasks: &[u16],
     operands: &[u16],
@@ -80,7 +79,7 @@ pub fn run(kinds: &[u8], tasks: &[u16], operands: &[u16], ws: &mut [u16], start:
     let mut line = start;
     let mut i = 0;
     while i < kinds.len() {
-        i = advance(kinds, tasks, operands, ws, line, i);
+        i = take_accesses(kinds, tasks, operands, ws, line, i);
         if kinds.len() <= i {
             return Found::Clean;
         }

@@ -1,6 +1,5 @@
 // Long texts, and the checksum of a long answer.
 ghost use Prim.Native.Nat.{_≤_, _<_};
-ghost use mathlib.Core.Path.{_≡_};
 ghost use lib.ListN.{length};
 ghost use Rattle.texts.specs.Building.{Built};
 

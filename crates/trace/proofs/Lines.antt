@@ -8,7 +8,7 @@ use Rattle.trace.specs.Trace.{Trace, FORK, JOIN, isAccess}
 use Rattle.trace.specs.Line.{Line, Checked, passes, fails, row, start, haltOperand, stepByKind, step, stepAfter, lineAfter}
 use Rattle.trace.specs.Graph.{isPassed, graphEvents}
 use Rattle.trace.specs.Demands.{KeepsRules, BreaksFirst, graphOf}
-use Rattle.trace.proofs.Tests.{by-test, either, last-or-below}
+use Rattle.trace.proofs.Tests.{either, last-or-below}
 
 -- A check passes or fails, with the equation.
 pub by-check : {A C : Type 0} (c : Checked A) → ((a : A) → c ≡ passes a → C) → ((number : ℕ) → c ≡ fails number → C) → C
@@ -85,11 +85,6 @@ module _ (haltRule : Line → ℕ) (tr : Trace) where
       by-check (lineAfter haltRule tr m) (λ before q. (before, q)) (λ number q. absurd (passes-not-fails e (fails-later m n number h q)))
 
   -- ---- the events of the graph
-
-  pub graph-le : (n : ℕ) → graphEvents haltRule tr n ≤ n
-  unfolding graphEvents
-  graph-le zero = omega arith
-  graph-le (suc n) = by-test (isPassed (lineAfter haltRule tr (suc n))) (λ e. rw e (omega arith)) (λ e. rw e (omega (arith, graph-le n)))
 
   -- All events, where all keep the rules.
   pub graph-all : (n : ℕ) (line : Line) → lineAfter haltRule tr n ≡ passes line → graphEvents haltRule tr n ≡ n

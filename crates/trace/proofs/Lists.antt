@@ -395,10 +395,6 @@ module _ (m : ℕ) (xs : List ℕ) where
 
 -- ---- lists that count up
 
-pub length-countUp : (k m : ℕ) → length (countUp k m) ≡ m
-length-countUp k zero = refl
-length-countUp k (suc m) = ap suc (length-countUp (suc k) m)
-
 pub occurrences-countUp-below : (p k m : ℕ) → p < k → occurrences p (countUp k m) ≡ 0
 occurrences-countUp-below p k zero h = refl
 occurrences-countUp-below p k (suc m) h =

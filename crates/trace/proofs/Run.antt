@@ -267,10 +267,6 @@ module _ (haltRule : Line → ℕ) (tr : Trace) where
       InLine left active (group (tr .task p))
   event-in-line run p h = groups run .in-line (tr .task p) (used-numbers run .of-task p h)
 
-  -- While a task runs, task 0 is its own group.
-  pub zero-own : {n x : ℕ} {left paused used : List ℕ} {group last : ℕ → ℕ} → Run n left (x ∷ paused) used group last → group 0 ≡ 0
-  zero-own run = groups run .own 0 (inl (zero-active run))
-
   -- An event of the running task is of the running task's group.
   pub running-own : {n : ℕ} {left paused used : List ℕ} {group last : ℕ → ℕ} → Run n left (tr .task n ∷ paused) used group last → (p : ℕ) → p ≡ n →
       group (tr .task p) ≡ tr .task n

@@ -16,24 +16,24 @@ abbrev μ-loop : tie.MeasureT-loop
 loop-holds : tie.Need-loop-holds Inv-loop μ-loop
 loop-holds c = search (needs, run-begin)
 
-advance-requires : tie.Need-advance-requires Inv-loop μ-loop
-advance-requires c κs = search needs
+take-accesses-requires : tie.Need-take-accesses-requires Inv-loop μ-loop
+take-accesses-requires c κs = search needs
 
 same-length : tie.Need-same-length Inv-loop μ-loop
 same-length c =
     let adv = c .before .before .before in
-    run-skipped _ _ _ (adv .before .before .before .loop .inv) _ (adv .advance .result) (adv .advance .ensures) .rest .long
+    run-skipped _ _ _ (adv .before .before .before .loop .inv) _ (adv .take-accesses .result) (adv .take-accesses .ensures) .rest .long
 
 returns : tie.Need-returns Inv-loop μ-loop
 returns c =
     let adv = c .before .before .before in
-    run-clean _ _ _ (run-skipped _ _ _ (adv .before .before .before .loop .inv) _ (adv .advance .result) (adv .advance .ensures)) (c .if1 .taken)
+    run-clean _ _ _ (run-skipped _ _ _ (adv .before .before .before .loop .inv) _ (adv .take-accesses .result) (adv .take-accesses .ensures)) (c .if1 .taken)
 
 turn-requires : tie.Need-turn-requires Inv-loop μ-loop
 turn-requires c κs =
     let adv = c .before .before .before .before in
-    let skipped = adv .advance .ensures in
-    let l = run-skipped _ _ _ (adv .before .before .before .loop .inv) _ (adv .advance .result) (adv .advance .ensures) in
+    let skipped = adv .take-accesses .ensures in
+    let l = run-skipped _ _ _ (adv .before .before .before .loop .inv) _ (adv .take-accesses .result) (adv .take-accesses .ensures) in
     (l .sized, (c .before .if1 .left, record { judge = skipped .judge; stops = skipped .stops (c .before .if1 .left) }))
 
 enum-known-taken : tie.Need-enum-known-taken Inv-loop μ-loop
@@ -46,14 +46,14 @@ same-length-2 : tie.Need-same-length-2 Inv-loop μ-loop
 same-length-2 c =
     let called = c .before .before .before .before .before in
     let adv = called .before .before .before .before .before in
-    let l = run-skipped _ _ _ (adv .before .before .before .loop .inv) _ (adv .advance .result) (adv .advance .ensures) in
+    let l = run-skipped _ _ _ (adv .before .before .before .loop .inv) _ (adv .take-accesses .result) (adv .take-accesses .ensures) in
     run-broken _ _ _ l _ (called .turn .result) _ (c .before .taken2 .given .1) (called .turn .ensures) .0 .long
 
 returns-2 : tie.Need-returns-2 Inv-loop μ-loop
 returns-2 c =
     let called = c .before .before .before .before .before in
     let adv = called .before .before .before .before .before in
-    let l = run-skipped _ _ _ (adv .before .before .before .loop .inv) _ (adv .advance .result) (adv .advance .ensures) in
+    let l = run-skipped _ _ _ (adv .before .before .before .loop .inv) _ (adv .take-accesses .result) (adv .take-accesses .ensures) in
     run-broken _ _ _ l _ (called .turn .result) _ (c .before .taken2 .given .1) (called .turn .ensures)
 
 enum-told : tie.Need-enum-told Inv-loop μ-loop
@@ -63,14 +63,14 @@ same-length-3 : tie.Need-same-length-3 Inv-loop μ-loop
 same-length-3 c =
     let called = c .before .before .before .before in
     let adv = called .before .before .before .before .before in
-    let l = run-skipped _ _ _ (adv .before .before .before .loop .inv) _ (adv .advance .result) (adv .advance .ensures) in
+    let l = run-skipped _ _ _ (adv .before .before .before .loop .inv) _ (adv .take-accesses .result) (adv .take-accesses .ensures) in
     run-racing _ _ _ l _ (called .turn .result) (c .enum-told .given .1) (called .turn .ensures) .0 .long
 
 returns-3 : tie.Need-returns-3 Inv-loop μ-loop
 returns-3 c =
     let called = c .before .before .before .before in
     let adv = called .before .before .before .before .before in
-    let l = run-skipped _ _ _ (adv .before .before .before .loop .inv) _ (adv .advance .result) (adv .advance .ensures) in
+    let l = run-skipped _ _ _ (adv .before .before .before .loop .inv) _ (adv .take-accesses .result) (adv .take-accesses .ensures) in
     run-racing _ _ _ l _ (called .turn .result) (c .enum-told .given .1) (called .turn .ensures)
 
 add-i : tie.Need-add-i Inv-loop μ-loop
@@ -80,14 +80,14 @@ loop-less : tie.Need-loop-less Inv-loop μ-loop
 loop-less c =
     let called = c .before .before .before .before .before in
     let adv = called .before .before .before .before .before in
-    let l = run-skipped _ _ _ (adv .before .before .before .loop .inv) _ (adv .advance .result) (adv .advance .ensures) in
-    omega (arith, adv .advance .ensures .later, called .before .before .if1 .left)
+    let l = run-skipped _ _ _ (adv .before .before .before .loop .inv) _ (adv .take-accesses .result) (adv .take-accesses .ensures) in
+    omega (arith, adv .take-accesses .ensures .later, called .before .before .if1 .left)
 
 loop-again : tie.Need-loop-again Inv-loop μ-loop
 loop-again c =
     let called = c .before .before .before .before .before in
     let adv = called .before .before .before .before .before in
-    let l = run-skipped _ _ _ (adv .before .before .before .loop .inv) _ (adv .advance .result) (adv .advance .ensures) in
+    let l = run-skipped _ _ _ (adv .before .before .before .loop .inv) _ (adv .take-accesses .result) (adv .take-accesses .ensures) in
     run-next _ _ _ l _ (called .turn .result) _ (c .before .taken .given .1) (called .before .before .if1 .left) (called .turn .ensures)
 
 same-length-4 : tie.Need-same-length-4 Inv-loop μ-loop
@@ -103,7 +103,7 @@ run-spec =
     Inv-loop
     μ-loop
     loop-holds
-    advance-requires
+    take-accesses-requires
     same-length
     returns
     turn-requires
