@@ -58,15 +58,16 @@ enum { RACEJUDGE_NO = 0, RACEJUDGE_YES = 1 };
 enum { RACEJUDGE_REFUSED = 2 };
 
 /* Judges the whole trace. Returns, and stores in values[0] and values[1]:
- *   RACEJUDGE_CLEAN     0, 0           every two accesses that conflict are ordered
+ *   RACEJUDGE_CLEAN     0, 0           the rules are kept, and every two accesses that conflict are
+ *                                      ordered
  *   RACEJUDGE_RACE      s, t           t is the first access that races with an earlier one, s the
  *                                      smallest position that it races with
  *   RACEJUDGE_REFUSED   number, position
  *
  * The order buffers have at least as many cells as the trace has events. After a race the first t + 1
- * cells of each hold an order of the events 0 to t that keeps every arc: first the events that reach s
- * or t, in position order, then s, t (in `first`) or t, s (in `second`), then all others in position
- * order. The cells from t + 1 on are unchanged. After clean or a refusal both buffers are unchanged. */
+ * cells of each hold an order of the events 0 to t that keeps every arc: first the other events that
+ * reach s or t, in position order, then s, t (in `first`) or t, s (in `second`), then all others in
+ * position order. The cells from t + 1 on are unchanged. After clean or a refusal both buffers are unchanged. */
 uint64_t racejudge_judge(const uint8_t *kinds, size_t kinds_len, const uint16_t *tasks,
                          size_t tasks_len, const uint16_t *operands, size_t operands_len,
                          uint16_t *workspace, size_t workspace_len, uint16_t *first,

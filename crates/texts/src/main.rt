@@ -47,6 +47,14 @@ fn documented() {
         b"T0|fork(T1)|1\nT1|r(V5)|2\nT0|w(V5)|3\n",
     );
     show(
+        b"two writes before an unordered read",
+        b"T0|fork(T1)|1\nT1|w(V5)|2\nT1|w(V5)|3\nT0|r(V5)|4\n",
+    );
+    show(
+        b"a join past the left neighbour",
+        b"T0|fork(T1)|1\nT0|fork(T2)|2\nT0|join(T1)|3\n",
+    );
+    show(
         b"joins from the left neighbour on",
         b"T0|fork(T1)|1\nT0|fork(T2)|2\nT0|join(T2)|3\nT0|join(T1)|4\n",
     );
