@@ -254,25 +254,19 @@ pub fn after(line: Line, kind: u8) -> Line
     requires { ⌜ Movable line kind ⌝ }
     ensures { λ r. ⌜ r ≡ afterIn line (ruleOf kind) ⌝ }
 {
+    let mut active = line.active;
+    let mut left = line.left;
     if kind == FORK {
-        return Line {
-            active: line.active + 1,
-            left: line.left,
-        };
+        active += 1;
     }
     if kind == JOIN {
-        return Line {
-            active: line.active,
-            left: line.left - 1,
-        };
+        left -= 1;
     }
     if kind == HALT {
-        return Line {
-            active: line.active - 1,
-            left: line.left + 1,
-        };
+        active -= 1;
+        left += 1;
     }
-    line
+    Line { active, left }
 }
 
 // The table that an access stores to beside AGAINST_WRITE. A read has none: it stores to AGAINST_WRITE again, which costs less than a branch on the kind that

@@ -53,7 +53,7 @@ plain-none tr x from to h =
 
 -- One access more.
 pub plain-more :
-    (kinds tasks operands : List ℕ) {x from to i : ℕ} → Plain (traceOf kinds tasks operands) x from to i → i < to → getD kinds i 0 ≤ WRITE
+    (kinds tasks operands : List ℕ) {x from to i : ℕ} → Plain (traceOf kinds tasks operands) x from to i → i < to → getD kinds i 0 < 2
     → getD tasks i 0 ≡ x → getD operands i 0 < LOCATIONS → Plain (traceOf kinds tasks operands) x from to (i + 1)
 unfolding traceOf
 plain-more kinds tasks operands {i = i} p h kind task operand =
@@ -61,7 +61,7 @@ plain-more kinds tasks operands {i = i} p h kind task operand =
     record {
       later = omega arith;
       within = omega arith;
-      kinds = λ j l u. either (last-or-below j i (omega arith)) (λ e. rw e (below-two-access (getD kinds i 0) (omega arith))) (p .kinds j l);
+      kinds = λ j l u. either (last-or-below j i (omega arith)) (λ e. rw e (below-two-access (getD kinds i 0) kind)) (p .kinds j l);
       tasks = λ j l u. either (last-or-below j i (omega arith)) (λ e. rw e task) (p .tasks j l);
       locations = λ j l u. either (last-or-below j i (omega arith)) (λ e. rw e operand) (p .locations j l);
     }

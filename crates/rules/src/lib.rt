@@ -20,7 +20,7 @@ pub enum Walked {
     Broken(usize, usize),
 }
 
-// The position of the first event from `from` on, or `to`, that is no access of x to a location.
+// The position of the first event from `from` on, or `to`, that is no access of x to a location. The three tests make one branch: `&` asks all of them.
 fn plain(kinds: &[u8], tasks: &[u16], operands: &[u16], x: u16, from: usize, to: usize) -> usize
     requires { ⌜ (length (now tasks) ≡ length (now kinds)) × (length (now operands) ≡ length (now kinds)) ⌝ }
     requires { ⌜ (from ≤ to) × (to ≤ length (now kinds)) ⌝ }
@@ -28,13 +28,8 @@ fn plain(kinds: &[u8], tasks: &[u16], operands: &[u16], x: u16, from: usize, to:
 {
     let mut i = from;
     while i < to {
-        if 1 < kinds[i] {
-            return i;
-        }
-        if tasks[i] != x {
-            return i;
-        }
-        if Line::LOCATIONS <= operands[i] {
+        let plain = (kinds[i] < 2) & (tasks[i] == x) & (operands[i] < Line::LOCATIONS);
+        if !plain {
             return i;
         }
         i += 1;

@@ -1,18 +1,63 @@
--- `line::after` meets its contract. Assumes nothing.
+-- `line::after` meets its contract: by the depths after its first two tests. Assumes nothing.
+use Prim.Native.Nat.{_+_, _-_}
+use mathlib.Core.Path.{_≡_}
+use mathlib.Core.Logic.{_⊎_, inl, inr, _≢_}
+use native.Mathlib.Omega.{arith}
 use borrow.Author.Needs.{needs}
-use Rattle.line.proofs.Rows.{after-fork, after-join, after-halt, after-other}
+use Rattle.trace.specs.Trace.{FORK, JOIN}
+use Rattle.trace.proofs.Tests.{either}
+use Rattle.line.proofs.Rows.{halt-active, halt-left, after-halt, after-other}
 use Rattle.line.proofs.after.Statement.{statement}
 use Rattle.line.proofs.after.Tie as tie
+
+forks : (c : tie.Joined1) →
+    let args = c .before .args in
+    ((args .kind ≡ FORK) × (c .if1 .active ≡ args .line .active + 1)) ⊎ ((args .kind ≢ FORK) × (c .if1 .active ≡ args .line .active))
+forks c = either (c .if1 .came) (λ w. inl (w .0 .taken, w .1)) (λ w. inr (w .0 .left, w .1))
+
+joins : (c : tie.Joined2) →
+    let args = c .before .before .args in
+    ((args .kind ≡ JOIN) × (c .if2 .left ≡ args .line .left - 1)) ⊎ ((args .kind ≢ JOIN) × (c .if2 .left ≡ args .line .left))
+joins c = either (c .if2 .came) (λ w. inl (w .0 .taken, w .1)) (λ w. inr (w .0 .left, w .1))
+
+sub-active : tie.Need-sub-active
+sub-active c =
+    let moved = c .before .before in
+    let start = moved .before .before in
+    let halts = c .before .if3 .taken in
+    let same = halt-active (start .args .line) (start .args .kind) (moved .before .if1 .active) (moved .if2 .left) (forks (moved .before)) (joins moved) halts in
+    let some = start .pre .halts halts in
+    omega arith
+
+add-left : tie.Need-add-left
+add-left c =
+    let moved = c .before .before .before in
+    let start = moved .before .before in
+    let halts = c .before .before .if3 .taken in
+    let same = halt-left (start .args .line) (start .args .kind) (moved .before .if1 .active) (moved .if2 .left) (forks (moved .before)) (joins moved) halts in
+    let few = start .pre .few-left in
+    search needs
+
+returns : tie.Need-returns
+returns c =
+    let moved = c .before .before .before in
+    let start = moved .before .before in
+    after-halt (start .args .line) (start .args .kind) (moved .before .if1 .active) (moved .if2 .left) (forks (moved .before)) (joins moved)
+    (c .before .before .if3 .taken)
+
+returns-2 : tie.Need-returns-2
+returns-2 c =
+    let moved = c .before in
+    let start = moved .before .before in
+    after-other (start .args .line) (start .args .kind) (moved .before .if1 .active) (moved .if2 .left) (forks (moved .before)) (joins moved) (c .if3 .left)
 
 pub after-spec : {M : Type 1} → statement M
 after-spec =
     tie.close
     (tie.spec
     (λ c. search needs)
-    (λ c. search after-fork)
-    (λ c. c .before .before .before .pre .joins (c .before .if2 .taken))
-    (λ c. search after-join)
-    (λ c. c .before .before .before .before .pre .halts (c .before .if3 .taken))
-    (λ c. search needs)
-    (λ c. search after-halt)
-    (λ c. search after-other))
+    (λ c. c .before .before .pre .joins (c .if2 .taken))
+    sub-active
+    add-left
+    returns
+    returns-2)

@@ -1,7 +1,9 @@
 -- `rules::plain` meets its contract: the events passed are accesses of x. Assumes nothing.
 use Prim.Native.Nat.{_-_}
 use borrow.Author.Needs.{needs}
+use borrow.Author.Tests.{not-false}
 use Rattle.trace.specs.Trace.{traceOf}
+use Rattle.trace.proofs.Tests.{test-and, test-lt, test-eq}
 use Rattle.rules.specs.Walks.{Plain}
 use Rattle.rules.proofs.Walking.{plain-none, plain-more}
 use Rattle.rules.proofs.plain.Statement.{statement}
@@ -12,6 +14,12 @@ Inv-loop kinds tasks operands x from to i₀ i = Plain (traceOf kinds tasks oper
 
 abbrev μ-loop : tie.MeasureT-loop
 μ-loop kinds tasks operands x from to i₀ i = to - i
+
+loop-again : tie.Need-loop-again Inv-loop μ-loop
+loop-again c =
+    let turn = c .before .before .before .before in
+    let told = test-and _ _ (test-and _ _ (test-lt _ _) (test-eq _ _)) (test-lt _ _) .0 (not-false _ (c .if1 .left)) in
+    plain-more _ _ _ (turn .before .loop .inv) (turn .loop-test .taken) (told .0 .0) (told .0 .1) (told .1)
 
 pub plain-spec : {M : Type 1} → statement M
 plain-spec =
@@ -28,7 +36,5 @@ plain-spec =
     (λ c. search needs)
     (λ c. search needs)
     (λ c. search needs)
-    (λ c. search needs)
-    (λ c. search needs)
-    (λ c. search (needs, plain-more))
+    loop-again
     (λ c. search needs))
