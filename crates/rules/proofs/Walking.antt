@@ -7,7 +7,7 @@ use mathlib.Core.Logic.{_≢_}
 use native.Mathlib.Omega.{arith}
 use native.Mathlib.Numerals.{add-one}
 use lib.ListN.{length, getD}
-use Rattle.trace.specs.Trace.{Trace, traceOf, WRITE, isAccess, LOCATIONS, WORKSPACE-CELLS}
+use Rattle.trace.specs.Trace.{Trace, traceOf, isAccess, LOCATIONS, WORKSPACE-CELLS}
 use Rattle.trace.specs.Line.{fails, haltOperand, lineAfter}
 use Rattle.trace.specs.Demands.{BreaksFirst}
 use Rattle.trace.proofs.Tests.{either, last-or-below}
