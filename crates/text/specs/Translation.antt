@@ -73,6 +73,11 @@ stackAfter stack l = pushed (l .operation) (l .operand) (drop (implied (l .task)
 
 -- ---- the whole text
 
+-- The events of lines, one after the other, from this stack: "No halt is added at the end."
+abbrev pub eventsOfAll : List ℕ → List Line → List Event
+eventsOfAll stack [] = []
+eventsOfAll stack (l ∷ lines) = eventsOf stack l ++ eventsOfAll (stackAfter stack l) lines
+
 -- "text makes over 2,048 events"
 abbrev pub MAX-TEXT-EVENTS : ℕ
 MAX-TEXT-EVENTS = 2048
