@@ -12,16 +12,6 @@ use Rattle.forest.proofs.Cells.{zeroed-length, zeroed-beyond}
 use Rattle.line.specs.Cells.{USED, ACTIVE, CLEARED, startedIn}
 use Rattle.line.specs.Held.{SameBeyond, Rest}
 
--- ---- cells past the tables
-
-pub beyond-refl : {c : List ℕ} → SameBeyond c c
-beyond-refl = record { long = refl; same = λ i h. refl }
-
-pub beyond-trans : {c d e : List ℕ} → SameBeyond c d → SameBeyond d e → SameBeyond c e
-beyond-trans a b = record { long = b .long ∙ a .long; same = λ i h. b .same i h ∙ a .same i h }
-
--- ---- and past one for each event
-
 pub rest-refl : (n : ℕ) (c : List ℕ) → Rest n c c
 rest-refl n c = record { long = refl; same = λ i h. refl }
 

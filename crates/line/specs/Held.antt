@@ -15,15 +15,14 @@ use Rattle.forest.specs.Forest.{Forest, topOf}
 use Rattle.line.specs.declared.Line.{Line}
 use Rattle.line.specs.Cells.{AGAINST-READ, AGAINST-WRITE, LEFT, ACTIVE, isLeftIn, isUsedIn}
 
--- Cells past the tables are as they were, and there are as many.
-pub record SameBeyond (entry exit : List ℕ) : Type 0 where
-  pub long : length exit ≡ length entry
-  pub same : (i : ℕ) → WORKSPACE-CELLS ≤ i → getD exit i 0 ≡ getD entry i 0
-
 -- Cells past the first 12,288 and one for each of n events are as they were, and there are as many.
 pub record Rest (n : ℕ) (entry exit : List ℕ) : Type 0 where
   pub long : length exit ≡ length entry
   pub same : (i : ℕ) → WORKSPACE-CELLS + n ≤ i → getD exit i 0 ≡ getD entry i 0
+
+-- Cells past the tables are: what a move or an access leaves, which know of no events.
+abbrev pub SameBeyond : List ℕ → List ℕ → Type 0
+SameBeyond entry exit = Rest 0 entry exit
 
 -- A stack stands in the cells from base on, its top last.
 abbrev pub StackAt : List ℕ → ℕ → List ℕ → Type 0

@@ -22,7 +22,7 @@ use Rattle.trace.proofs.TwoStacks.{line-of}
 use Rattle.line.specs.declared.Line.{Line}
 use Rattle.line.specs.Held.{SameBeyond, LineAt}
 use Rattle.order.specs.Asks.{Tells, unlessBroken, Answered, OrderSays}
-use Rattle.line.proofs.Rests.{rest-beyond, rest-trans, beyond-trans}
+use Rattle.line.proofs.Rests.{rest-beyond, rest-trans}
 
 module _ {tr : Trace} {n : ℕ} {entry exit : List ℕ} {kept reply : Reply Bool} where
   -- All n events keep the rules.
@@ -46,7 +46,7 @@ module _ {tr : Trace} {n : ℕ} {entry exit : List ℕ} {kept reply : Reply Bool
 
   -- Cells past the tables did not change before either.
   pub answered-after : {before : List ℕ} → SameBeyond before entry → Answered tr n entry exit kept reply → Answered tr n before exit kept reply
-  answered-after b a = record { beyond = beyond-trans b (a .beyond); right = a .right }
+  answered-after b a = record { beyond = rest-trans b (a .beyond); right = a .right }
 
 -- Only where the rules are kept does it matter which reply is kept.
 unless-same :

@@ -33,7 +33,7 @@ use Rattle.rules.specs.declared.Walked.the-variants.{Held, Broken}
 use Rattle.scan.specs.State.{RaceAt}
 use Rattle.rules.specs.Walks.{WalkSays}
 use Rattle.report.specs.Reports.{LIVE, MARK, Filled, liveIn, SmallTasks, liveAt, addedAt, kindsConflict, unorderedIn, FirstUnordered, MarksBefore, PairFound, Rewound, MarksExtended}
-use Rattle.line.proofs.Rests.{beyond-trans}
+use Rattle.line.proofs.Rests.{rest-trans}
 use Rattle.line.proofs.Bounds.{task-small}
 
 -- ---- what the table says of an access
@@ -193,7 +193,7 @@ keeps-earlier {tr} {m} {n} h kept =
 module _ {tr : Trace} {s : ℕ} where
   -- Where the rules are kept before s, the walk is not stopped.
   pub rewound : {c started exit : List ℕ} (w : Walked) → KeepsRules tr s → SameBeyond c started → WalkSays tr 0 s started exit w → Rewound tr s c exit
-  rewound (Held line) kept beyond says = record { beyond = beyond-trans beyond (says .0); line = line; at = says .1 }
+  rewound (Held line) kept beyond says = record { beyond = rest-trans beyond (says .0); line = line; at = says .1 }
   rewound (Broken number i) kept beyond says =
       let low = says .1 in
       let b = says .2 in

@@ -20,7 +20,7 @@ use Rattle.line.specs.declared.Line.{Line}
 use Rattle.line.specs.Cells.{depths, runningIn, startedIn}
 use Rattle.line.specs.Steps.{Stepped, goes, rowed, eventIn}
 use Rattle.line.specs.Held.{SameBeyond, LineCells, LineAt}
-use Rattle.line.proofs.Rests.{beyond-refl, beyond-trans, beyond-start}
+use Rattle.line.proofs.Rests.{rest-refl, rest-eq, rest-trans, beyond-start}
 use Rattle.line.proofs.Moves.{running-first}
 use Rattle.line.proofs.EventLaw.{row-none, row-some, line-start, Agrees, event-law}
 use Rattle.rules.specs.declared.Step.{Step}
@@ -131,7 +131,7 @@ module _ {tr : Trace} {n : ℕ} {c : List ℕ} {line : Line} (at : LineAt tr n c
       let met = step-agrees (record { result = fails row; cells = exit }) (sym (row-some next row exit e some)) in
       let before = lineOf (at .left) (at .active) (at .used) in
       let kept = line-of haltOperand tr (at .run) in (
-        record { long = ap length (met .1); same = λ i h. rw (met .1) },
+        rest-eq 0 c exit (met .1),
         record { line = before; kept-before = kept; broken = sym (line-more haltOperand tr n before kept) ∙ met .0 },
       )
 
@@ -161,7 +161,7 @@ pub record Walking (tr : Trace) (to : ℕ) (entry c : List ℕ) (line : Line) (i
   pub at : LineAt tr i c line
 
 pub walk-begin : {tr : Trace} {from to i : ℕ} {c : List ℕ} {line : Line} → LineKept tr from to c line i → Walking tr to c c line i
-walk-begin k = record { inside = k .within; beyond = beyond-refl; at = k .at }
+walk-begin k = record { inside = k .within; beyond = rest-refl 0 _; at = k .at }
 
 module _ {tr : Trace} {to i : ℕ} {entry c : List ℕ} {line : Line} (w : Walking tr to entry c line i) where
   pub walk-finish : to ≤ i → SameBeyond entry c × LineAt tr to c line
@@ -177,12 +177,12 @@ module _ {tr : Trace} {to i : ℕ} {entry c : List ℕ} {line : Line} (w : Walki
     pub walk-turn : {next : Line} {j : ℕ} → s ≡ Ok next → LineKept tr (i + 1) to exit next j → Walking tr to entry exit next j
     walk-turn {next} e k =
         let said : EventSays tr i c exit (Ok next) = rw e at says in
-        record { inside = k .within; beyond = beyond-trans (w .beyond) (said .0); at = k .at }
+        record { inside = k .within; beyond = rest-trans (w .beyond) (said .0); at = k .at }
 
     pub walk-broken : {number : ℕ} → s ≡ Refused number → SameBeyond entry exit × BreaksFirst tr i number
     walk-broken {number} e =
         let said : EventSays tr i c exit (Refused number) = rw e at says in
-        (beyond-trans (w .beyond) (said .0), said .1)
+        (rest-trans (w .beyond) (said .0), said .1)
 
 -- What a walk says, by its answer.
 module _ {tr : Trace} (from : ℕ) {to : ℕ} {entry exit : List ℕ} {w : Walked} (says : WalkSays tr from to entry exit w) where
