@@ -1,6 +1,6 @@
 -- From the contracts of `text` and `judge` to the answer: a text's events are judged in the first cells of the three slices, every answer about them fits
 -- the buffer (`rendered-holding`), and each row of `answer` is the answer of the definition. Assumes nothing.
-use Prim.Native.Nat.{ℕ, _+_, _-_, _≤_, _<_}
+use Prim.Native.Nat.{ℕ, _+_, _≤_, _<_}
 use native.Mathlib.Omega.{arith}
 use mathlib.Core.Path.{_≡_, refl, sym, ap, subst, _∙_}
 use mathlib.Core.Bool.{true}

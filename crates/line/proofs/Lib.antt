@@ -6,3 +6,4 @@ pub mod Moves
 pub mod Locations
 pub mod EventLaw
 pub mod AccessLaw
+pub mod Depths

@@ -1,22 +1,22 @@
 -- Laws of the rows of a step and of the cases of an access, premises spelt as the code's tests and its callees' contracts are. The sets `rows` and
 -- `cases` hold them for `search`, which then peels the tests one by one. Assumes nothing.
-use Prim.Native.Nat.{ℕ, zero, suc, _+_, _-_, _≤_, _<_}
+use Prim.Native.Nat.{ℕ, zero, suc, _+_, _≤_, _<_}
 use mathlib.Core.Path.{_≡_, refl, sym, ap, _∙_}
 use mathlib.Core.Bool.{Bool, true, false, cond, not, _&&_}
 use mathlib.Core.List.{List}
-use mathlib.Core.Logic.{_⊎_, _≢_}
+use mathlib.Core.Logic.{_≢_}
 use native.Mathlib.Omega.{arith}
 use lib.Dec.{eqb, leb}
 use lib.ListN.{getD, set}
 use borrow.Author.Tests.{le-leb, lt-leb, leb-true, leb-false, eq-eqb, ne-eqb}
-use Rattle.trace.specs.Trace.{WRITE, FORK, JOIN, HALT, LOCATIONS, TASKS, isKind, isAccess}
-use Rattle.trace.proofs.Tests.{by-test, either}
+use Rattle.trace.specs.Trace.{WRITE, HALT, LOCATIONS, TASKS, isKind, isAccess}
+use Rattle.trace.proofs.Tests.{by-test}
 use Rattle.forest.specs.Forest.{topOf}
 use Rattle.line.specs.declared.Line.{Line}
 use Rattle.line.specs.declared.Rule.{Rule}
 use Rattle.line.specs.declared.Rule.the-variants.{Access, Fork, Join, Halt, Unknown}
 use Rattle.line.specs.Rules.{ruleOf}
-use Rattle.line.specs.Cells.{depths, IN-LEFT, AGAINST-READ, AGAINST-WRITE, isLeftIn}
+use Rattle.line.specs.Cells.{IN-LEFT, AGAINST-READ, AGAINST-WRITE, isLeftIn}
 use Rattle.line.specs.Steps.{Stepped, goes, rowed, afterIn, rowIn, locationRow, locationIn, actIn}
 use Rattle.line.specs.Accesses.{againstRead, againstWrite, accessed, toppedIn, behindIn}
 
@@ -114,31 +114,6 @@ unfolding ruleOf isAccess
 rule-unknown k h =
     let no : (j : ℕ) → j ≤ 4 → eqb k j ≡ false = λ j i. ne-eqb k j (λ e. omega arith) in
     rw (no 0 (omega arith), no 1 (omega arith), no 2 (omega arith), no 3 (omega arith), no 4 (omega arith))
-
--- The line after an event, from the depths that the code has after its tests for a fork and for a join.
-module _ (line : Line) (kind active left : ℕ) (forks : ((kind ≡ FORK) × (active ≡ line .active + 1)) ⊎ ((kind ≢ FORK) × (active ≡ line .active)))
-    (joins : ((kind ≡ JOIN) × (left ≡ line .left - 1)) ⊎ ((kind ≢ JOIN) × (left ≡ line .left))) where
-  -- At a halt they are as they were.
-  pub halt-active : kind ≡ HALT → active ≡ line .active
-  halt-active h = either forks (λ w. absurd (omega (arith, w .0))) (λ w. w .1)
-
-  pub halt-left : kind ≡ HALT → left ≡ line .left
-  halt-left h = either joins (λ w. absurd (omega (arith, w .0))) (λ w. w .1)
-
-  pub after-halt : kind ≡ HALT → depths (active - 1) (left + 1) ≡ afterIn line (ruleOf kind)
-  after-halt h = rw (halt-active h, halt-left h) (ap (afterIn line) (rule-halt kind h))
-
-  pub after-other : kind ≢ HALT → depths active left ≡ afterIn line (ruleOf kind)
-  unfolding ruleOf
-  after-other h =
-      either forks
-      (λ f.
-      either joins (λ j. absurd (omega (arith, f .0, j .0))) (λ j. rw (f .1, j .1) (ap (afterIn line) (rule-fork kind (f .0)))))
-      (λ f.
-      either joins (λ j. rw (f .1, j .1) (ap (afterIn line) (rule-join kind (j .0))))
-      (λ j.
-      rw (f .1, j .1, ne-eqb kind FORK (f .0), ne-eqb kind JOIN (j .0), ne-eqb kind HALT h)
-      (by-test (isAccess kind) (λ e. rw e) (λ e. rw e))))
 
 -- 1 for the rule of no kind, else 0.
 abbrev unknown : Rule → ℕ

@@ -3,7 +3,7 @@
 ghost use mathlib.Core.Path.{_≡_};
 ghost use Prim.Native.Nat.{_+_, _-_, _≤_, _<_};
 ghost use lib.ListN.{length};
-ghost use Rattle.trace.specs.Trace.{TASKS, WORKSPACE-CELLS};
+ghost use Rattle.trace.specs.Trace.{isAccess, TASKS, WORKSPACE-CELLS};
 ghost use Rattle.forest.specs.Forest.{Forest, topOf};
 ghost use Rattle.line.specs.Rules.{ruleOf};
 ghost use Rattle.line.specs.Cells.{AGAINST-WRITE, depths, runningIn, nearestIn, isLeftIn, startedIn, forkedIn, haltedIn, joinedIn};
@@ -32,7 +32,9 @@ const ACTIVE: usize = 8192;
 // The tables that are read before they are written: the forest's two, IN_LEFT, USED and those of the locations.
 const CLEARED: usize = 6144;
 
-// The kinds of the events that move the line.
+// The kinds that the code names: a write, and the events that move the line.
+const WRITE: u8 = 1;
+
 pub const FORK: u8 = 2;
 
 pub const JOIN: u8 = 3;
@@ -159,6 +161,13 @@ pub fn rule_of(kind: u8) -> Rule
     }
 }
 
+// Whether an event of this kind is an access: reads and writes are the kinds before the others.
+pub fn is_access(kind: u8) -> bool
+    ensures { λ r. ⌜ r ≡ isAccess kind ⌝ }
+{
+    kind < FORK
+}
+
 // The functions below answer the row that is met, or 0: a plain number, which comes back in a register. A line that came back through memory, field by field, would
 // be waited for at every event.
 
@@ -274,7 +283,7 @@ pub fn after(line: Line, kind: u8) -> Line
 fn second_table(kind: u8) -> usize
     ensures { λ r. ⌜ (r ≡ secondTable kind) × (r ≤ AGAINST-WRITE) ⌝ }
 {
-    if kind == 1 {
+    if kind == WRITE {
         return AGAINST_READ;
     }
     AGAINST_WRITE
@@ -296,7 +305,7 @@ fn behind(ws: &mut [u16], top: u16, kind: u8, location: u16) -> bool
     requires { ⌜ top ≡ topOf (now ws) (againstWrite (now ws) location) ⌝ }
     ensures { λ r. ⌜ accessed r (now (ws .exit)) ≡ behindIn (now (ws .entry)) kind location ⌝ }
 {
-    if kind == 1 {
+    if kind == WRITE {
         return false;
     }
     let writer = top_of(ws, forest::cell(ws, AGAINST_READ, location));

@@ -1,15 +1,15 @@
 -- The search for the partner: what the code's test of one event says. Assumes nothing.
-use Prim.Native.Nat.{ℕ, _+_, _<_, _≤_}
-use mathlib.Core.Path.{_≡_, sym}
+use Prim.Native.Nat.{ℕ, _+_}
+use mathlib.Core.Path.{_≡_, sym, _∙_}
 use mathlib.Core.Bool.{Bool, true, false, not}
 use mathlib.Core.List.{List}
-use mathlib.Core.Logic.{_⊎_, inl, inr, _≢_}
+use mathlib.Core.Logic.{inl, inr, _≢_}
 use native.Mathlib.Omega.{arith}
 use lib.Dec.{eqb}
 use lib.ListN.{getD}
 use borrow.Author.Tests.{eq-eqb, ne-eqb}
-use Rattle.trace.specs.Trace.{traceOf, READ, WRITE, isAccess}
-use Rattle.trace.proofs.Tests.{either, same-or-not, Tests, tests-map, tests-false, tests-unique, test-eq, test-and, test-not}
+use Rattle.trace.specs.Trace.{traceOf, isAccess}
+use Rattle.trace.proofs.Tests.{either, tests-map, tests-unique, test-eq, test-not}
 use Rattle.trace.proofs.Conflicts.{test-access, test-conflicting}
 use Rattle.report.specs.Reports.{LIVE, kindsConflict, unorderedIn}
 
@@ -17,24 +17,21 @@ use Rattle.report.specs.Reports.{LIVE, kindsConflict, unorderedIn}
 
 -- This part alone rests on which kinds are accesses and which of them conflict.
 module _ (j k : ℕ) where
-  test-kinds : Tests (kindsConflict j k) (((j ≡ READ) ⊎ (j ≡ WRITE)) × ((j ≡ WRITE) ⊎ (k ≡ WRITE)))
-  unfolding kindsConflict
-  test-kinds = test-and _ _ (test-access j) (test-conflicting j k)
-
   -- The tests of the code, in their order.
-  pub no-access : 1 < j → false ≡ kindsConflict j k
-  no-access h = sym (tests-false _ test-kinds (λ f. either (f .0) (λ e. omega arith) (λ e. omega arith)))
+  pub no-access : (is : Bool) → is ≡ isAccess j → is ≡ false → false ≡ kindsConflict j k
+  unfolding kindsConflict
+  no-access is told h = rw (← told, h)
 
-  pub one-writes : j ≤ 1 → isAccess k ≡ true → not (eqb (j + k) 0) ≡ kindsConflict j k
-  one-writes low access =
-      tests-unique _ _
+  pub one-writes : (is : Bool) → is ≡ isAccess j → is ≡ true → isAccess k ≡ true → not (eqb (j + k) 0) ≡ kindsConflict j k
+  unfolding kindsConflict
+  one-writes is told h other =
+      rw (← told, h)
+      (tests-unique _ _
       (tests-map
-      (λ h.
-      either (same-or-not j WRITE) (λ w. (inr w, inl w))
-      (λ o. (inl (omega arith), either (test-access k .0 access) (λ r. absurd (h (omega arith))) (λ w. inr w))))
-      (λ f e. either (f .1) (λ w. omega arith) (λ w. omega arith))
+      (λ some. either (test-access j .0 (sym told ∙ h)) (λ r. either (test-access k .0 other) (λ r′. absurd (some (omega arith))) (λ w. inr w)) (λ w. inl w))
+      (λ f e. either f (λ w. omega arith) (λ w. omega arith))
       (test-not _ (test-eq (j + k) 0)))
-      test-kinds
+      (test-conflicting j k))
 
 -- ---- the test of one event, in the order of the code
 

@@ -53,7 +53,7 @@ fn conflicts(kind: u8, other: u8) -> bool
     requires { ⌜ isAccess other ≡ true ⌝ }
     ensures { λ r. ⌜ r ≡ kindsConflict kind other ⌝ }
 {
-    if 1 < kind {
+    if !line::is_access(kind) {
         return false;
     }
     kind + other != 0

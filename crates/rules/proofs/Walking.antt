@@ -1,6 +1,6 @@
 -- The line rules over a part of a trace: accesses of the running task leave the line as it is, and one event more is the document's step. Assumes nothing.
 use Prim.Native.Nat.{ℕ, zero, suc, _+_, _<_, _≤_}
-use mathlib.Core.Path.{_≡_, sym, ap, subst, _∙_}
+use mathlib.Core.Path.{_≡_, sym, subst, _∙_}
 use mathlib.Core.Bool.{true}
 use mathlib.Core.List.{List, _∷_}
 use mathlib.Core.Logic.{_≢_}
@@ -11,7 +11,6 @@ use Rattle.trace.specs.Trace.{Trace, traceOf, isAccess, LOCATIONS, WORKSPACE-CE
 use Rattle.trace.specs.Line.{fails, haltOperand, lineAfter}
 use Rattle.trace.specs.Demands.{BreaksFirst}
 use Rattle.trace.proofs.Tests.{either, last-or-below}
-use Rattle.trace.proofs.EventKinds.{below-two-access}
 use Rattle.trace.proofs.Stacks.{updated}
 use Rattle.trace.proofs.Run.{Run, access, lineOf}
 use Rattle.trace.proofs.TwoStacks.{line-of}
@@ -53,7 +52,7 @@ plain-none tr x from to h =
 
 -- One access more.
 pub plain-more :
-    (kinds tasks operands : List ℕ) {x from to i : ℕ} → Plain (traceOf kinds tasks operands) x from to i → i < to → getD kinds i 0 < 2
+    (kinds tasks operands : List ℕ) {x from to i : ℕ} → Plain (traceOf kinds tasks operands) x from to i → i < to → isAccess (getD kinds i 0) ≡ true
     → getD tasks i 0 ≡ x → getD operands i 0 < LOCATIONS → Plain (traceOf kinds tasks operands) x from to (i + 1)
 unfolding traceOf
 plain-more kinds tasks operands {i = i} p h kind task operand =
@@ -61,7 +60,7 @@ plain-more kinds tasks operands {i = i} p h kind task operand =
     record {
       later = omega arith;
       within = omega arith;
-      kinds = λ j l u. either (last-or-below j i (omega arith)) (λ e. rw e (below-two-access (getD kinds i 0) kind)) (p .kinds j l);
+      kinds = λ j l u. either (last-or-below j i (omega arith)) (λ e. rw e kind) (p .kinds j l);
       tasks = λ j l u. either (last-or-below j i (omega arith)) (λ e. rw e task) (p .tasks j l);
       locations = λ j l u. either (last-or-below j i (omega arith)) (λ e. rw e operand) (p .locations j l);
     }

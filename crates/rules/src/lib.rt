@@ -28,7 +28,7 @@ fn plain(kinds: &[u8], tasks: &[u16], operands: &[u16], x: u16, from: usize, to:
 {
     let mut i = from;
     while i < to {
-        let plain = (kinds[i] < 2) & (tasks[i] == x) & (operands[i] < Line::LOCATIONS);
+        let plain = line::is_access(kinds[i]) & (tasks[i] == x) & (operands[i] < Line::LOCATIONS);
         if !plain {
             return i;
         }

@@ -11,7 +11,6 @@ use Rattle.trace.specs.Line.{haltOperand}
 use Rattle.trace.specs.Race.{Race}
 use Rattle.trace.specs.Demands.{NoRaceBefore, graphOf}
 use Rattle.trace.proofs.Tests.{either, last-or-below}
-use Rattle.trace.proofs.EventKinds.{below-two-access, access-below-two}
 use Rattle.trace.proofs.Lines.{graph-ge}
 use Rattle.trace.proofs.Forward.{graph-forward}
 use Rattle.trace.proofs.Sizes.{Sized}
@@ -112,9 +111,10 @@ module _ (kinds tasks operands : List ℕ) where
   abbrev tr : Trace
   tr = traceOf kinds tasks operands
 
-  pub stops-kind : (n i x top : ℕ) (c : List ℕ) → 1 < getD kinds i 0 → Passing tr n i c c x top false
+  pub stops-kind :
+      (n i x top : ℕ) (c : List ℕ) (is : Bool) → is ≡ isAccess (getD kinds i 0) → is ≡ false → Passing tr n i c c x top false
   unfolding traceOf
-  stops-kind n i x top c h = (refl, λ is own low. let k = access-below-two (getD kinds i 0) is in absurd (omega arith))
+  stops-kind n i x top c is told h = (refl, λ yes own low. absurd (true≢false (sym yes ∙ (sym told ∙ h))))
 
   pub stops-task : (n i x top : ℕ) (c : List ℕ) → (getD tasks i 0 ≡ x → ⊥) → Passing tr n i c c x top false
   unfolding traceOf
@@ -124,11 +124,11 @@ module _ (kinds tasks operands : List ℕ) where
   unfolding traceOf
   stops-location n i x top c h = (refl, λ is own low. absurd (omega arith))
 
-  module _ (n i x top : ℕ) (entry : List ℕ) (inside : i < n) (at : SomeRunning tr n i entry x top) (kind : getD kinds i 0 ≤ 1) (own : getD tasks i 0 ≡ x)
+  module _ (n i x top : ℕ) (entry : List ℕ) (inside : i < n) (at : SomeRunning tr n i entry x top) (kind : isAccess (getD kinds i 0) ≡ true) (own : getD tasks i 0 ≡ x)
       (low : getD operands i 0 < LOCATIONS) where
     is-access : isAccess (tr .kind i) ≡ true
     unfolding traceOf
-    is-access = below-two-access (getD kinds i 0) (omega arith)
+    is-access = kind
 
     of-task : tr .task i ≡ x
     unfolding traceOf

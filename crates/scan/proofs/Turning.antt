@@ -1,7 +1,7 @@
 -- One event that is no access that passes: it breaks a rule, or it races, or the line goes on. Assumes nothing.
 use Prim.Native.Nat.{ℕ, suc, _+_, _<_, _≤_}
 use mathlib.Core.Path.{_≡_, refl, sym, ap, subst, _∙_}
-use mathlib.Core.Bool.{true}
+use mathlib.Core.Bool.{Bool, true, false, true≢false}
 use mathlib.Core.List.{List, [], _∷_}
 use mathlib.Core.Logic.{inl, _≢_}
 use native.Mathlib.Omega.{arith}
@@ -30,7 +30,6 @@ use Rattle.scan.specs.declared.Found.{Found}
 use Rattle.scan.specs.declared.Found.the-variants.{Clean}
 use Rattle.scan.specs.Turns.{TurnSays, FoundSays}
 use Rattle.line.proofs.Rests.{rest-eq, rest-refl, rest-trans, rest-beyond, sized-rest}
-use Rattle.trace.proofs.EventKinds.{below-two-access, access-below-two}
 use Rattle.scan.proofs.Skipping.{no-race-next}
 
 -- ---- the three outcomes
@@ -176,20 +175,20 @@ module _ (kinds tasks operands : List ℕ) where
           let e = sym (row-some next row exit ensures some) in
           rw (ap (λ (s : Stepped). s .cells) e) (turn-broken stopped inside row (sym (ap (λ (s : Stepped). s .result) e)))
 
-      pub says-racing : row ≡ 0 → getD kinds i 0 < 2 → TurnSays of-lists n i entry exit Racing
+      pub says-racing : row ≡ 0 → (is : Bool) → is ≡ isAccess (getD kinds i 0) → is ≡ true → TurnSays of-lists n i entry exit Racing
       unfolding traceOf
-      says-racing none k =
+      says-racing none is told h =
           let e = sym (row-none next row exit ensures none) in
           rw (ap (λ (s : Stepped). s .cells) e)
-          (turn-racing stopped inside next (sym (ap (λ (s : Stepped). s .result) e)) (below-two-access (getD kinds i 0) k))
+          (turn-racing stopped inside next (sym (ap (λ (s : Stepped). s .result) e)) (sym told ∙ h))
 
-      pub says-next : row ≡ 0 → 2 ≤ getD kinds i 0 → (r : Line) → r ≡ next → TurnSays of-lists n i entry exit (Next r)
+      pub says-next : row ≡ 0 → (is : Bool) → is ≡ isAccess (getD kinds i 0) → is ≡ false → (r : Line) → r ≡ next → TurnSays of-lists n i entry exit (Next r)
       unfolding traceOf
-      says-next none k r same =
+      says-next none is told h r same =
           let e = sym (row-none next row exit ensures none) in
           rw (same, ap (λ (s : Stepped). s .cells) e)
           (turn-next stopped inside next (sym (ap (λ (s : Stepped). s .result) e))
-          (λ is. let h = access-below-two (getD kinds i 0) is in omega arith))
+          (λ yes. true≢false (sym yes ∙ (sym told ∙ h))))
 
   -- What holds at i in the loop of `run`, which began with the cells `entry`.
   pub record RunLoop (entry c : List ℕ) (line : Line) (i : ℕ) : Type 0 where

@@ -1,6 +1,6 @@
 // The access loop. It carries no line state: from one position on, the accesses of the running task x that pass. Accesses make no
 // two groups one, so the top of x is found once, before the loop, and is what the locations then name.
-ghost use Prim.Native.Nat.{_+_, _≤_, _<_};
+ghost use Prim.Native.Nat.{_≤_, _<_};
 ghost use lib.ListN.{length};
 ghost use Rattle.trace.specs.Trace.{traceOf};
 ghost use Rattle.trace.proofs.Sizes.{Sized};
@@ -23,7 +23,7 @@ fn passes(
     ensures { λ r. ⌜ Passing (traceOf (now (kinds .entry)) (now (tasks .entry)) (now (operands .entry))) (length (now (kinds .entry))) i (now (ws .entry)) (now (ws .exit)) x top r ⌝ }
 {
     let kind = kinds[i];
-    if 1 < kind {
+    if !line::is_access(kind) {
         return false;
     }
     if tasks[i] != x {

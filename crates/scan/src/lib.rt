@@ -1,5 +1,5 @@
 // The main loop of the judge: the events in position order, each held to the rules and then to the race test.
-ghost use Prim.Native.Nat.{_+_, _≤_, _<_};
+ghost use Prim.Native.Nat.{_≤_, _<_};
 ghost use lib.ListN.{length};
 ghost use Rattle.trace.specs.Trace.{traceOf};
 ghost use Rattle.trace.proofs.Sizes.{Sized};
@@ -64,7 +64,7 @@ fn turn(
     if row != 0 {
         return Taken::Broken(row);
     }
-    if kind < 2 {
+    if line::is_access(kind) {
         return Taken::Racing;
     }
     Taken::Next(line::after(line, kind))

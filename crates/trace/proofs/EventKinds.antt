@@ -7,7 +7,7 @@ use native.Mathlib.Omega.{arith}
 use lib.Dec.{eqb}
 use borrow.Author.Tests.{eqb-false, leb-true}
 use Rattle.trace.specs.Trace.{FORK, JOIN, HALT, READ, WRITE, isKind, isAccess}
-use Rattle.trace.proofs.Tests.{either, last-or-below, tests-fails, test-or, test-eq}
+use Rattle.trace.proofs.Tests.{either, last-or-below, Tests, tests-map, tests-fails, test-or, test-eq}
 
 -- An access is no kind that is no access.
 access-apart : (k other : ℕ) → isAccess k ≡ true → isAccess other ≡ false → k ≢ other
@@ -26,15 +26,12 @@ pub access-not-halt : (k : ℕ) → isAccess k ≡ true → k ≢ HALT
 unfolding isAccess
 access-not-halt k a = access-apart k HALT a refl
 
--- In numbers, accesses are the kinds below 2: the tests of the code.
-pub access-below-two : (k : ℕ) → isAccess k ≡ true → k < 2
+-- In numbers, accesses are the kinds before the fork's: the test of the code.
+pub test-access-number : (k : ℕ) → Tests (isAccess k) (k < FORK)
 unfolding isAccess
-access-below-two k a = either (test-or (eqb k READ) (eqb k WRITE) (test-eq k READ) (test-eq k WRITE) .0 a) (λ e. omega arith) (λ e. omega arith)
-
-pub below-two-access : (k : ℕ) → k < 2 → isAccess k ≡ true
-unfolding isAccess
-below-two-access k h =
-    test-or (eqb k READ) (eqb k WRITE) (test-eq k READ) (test-eq k WRITE) .1 (either (last-or-below k 1 h) (λ e. inr e) (λ l. inl (omega arith)))
+test-access-number k =
+    tests-map (λ e. either e (λ r. omega arith) (λ w. omega arith)) (λ h. either (last-or-below k 1 h) (λ e. inr e) (λ l. inl (omega arith)))
+    (test-or (eqb k READ) (eqb k WRITE) (test-eq k READ) (test-eq k WRITE))
 
 -- The document names every access.
 pub access-is-kind : (k : ℕ) → isAccess k ≡ true → isKind k ≡ true

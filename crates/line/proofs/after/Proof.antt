@@ -6,7 +6,7 @@ use native.Mathlib.Omega.{arith}
 use borrow.Author.Needs.{needs}
 use Rattle.trace.specs.Trace.{FORK, JOIN}
 use Rattle.trace.proofs.Tests.{either}
-use Rattle.line.proofs.Rows.{halt-active, halt-left, after-halt, after-other}
+use Rattle.line.proofs.Depths.{halt-active, halt-left, after-halt, after-other}
 use Rattle.line.proofs.after.Statement.{statement}
 use Rattle.line.proofs.after.Tie as tie
 

@@ -1,9 +1,10 @@
 -- `rules::plain` meets its contract: the events passed are accesses of x. Assumes nothing.
 use Prim.Native.Nat.{_-_}
+use mathlib.Core.Path.{sym, _∙_}
 use borrow.Author.Needs.{needs}
 use borrow.Author.Tests.{not-false}
 use Rattle.trace.specs.Trace.{traceOf}
-use Rattle.trace.proofs.Tests.{test-and, test-lt, test-eq}
+use Rattle.trace.proofs.Tests.{test-self, test-and, test-lt, test-eq}
 use Rattle.rules.specs.Walks.{Plain}
 use Rattle.rules.proofs.Walking.{plain-none, plain-more}
 use Rattle.rules.proofs.plain.Statement.{statement}
@@ -17,9 +18,9 @@ abbrev μ-loop : tie.MeasureT-loop
 
 loop-again : tie.Need-loop-again Inv-loop μ-loop
 loop-again c =
-    let turn = c .before .before .before .before in
-    let told = test-and _ _ (test-and _ _ (test-lt _ _) (test-eq _ _)) (test-lt _ _) .0 (not-false _ (c .if1 .left)) in
-    plain-more _ _ _ (turn .before .loop .inv) (turn .loop-test .taken) (told .0 .0) (told .0 .1) (told .1)
+    let turn = c .before .before .before .before .before in
+    let told = test-and _ _ (test-and _ _ (test-self _) (test-eq _ _)) (test-lt _ _) .0 (not-false _ (c .if1 .left)) in
+    plain-more _ _ _ (turn .before .loop .inv) (turn .loop-test .taken) (sym (c .before .before .before .is-access .ensures) ∙ told .0 .0) (told .0 .1) (told .1)
 
 pub plain-spec : {M : Type 1} → statement M
 plain-spec =
@@ -28,6 +29,7 @@ plain-spec =
     Inv-loop
     μ-loop
     (λ c. search (needs, plain-none))
+    (λ c. search needs)
     (λ c. search needs)
     (λ c. search needs)
     (λ c. search needs)

@@ -18,6 +18,7 @@ turn-spec =
     (λ c. search needs)
     (λ c. search says-broken)
     (λ c. search needs)
+    (λ c. search needs)
     (λ c. search says-racing)
     (λ c κs. search movable)
     (λ c. search needs)
