@@ -21,11 +21,11 @@ use Rattle.trace.proofs.Tests.{by-test}
 use Rattle.judge.specs.Entry.{judgeGives}
 use Rattle.text.specs.Translation.{Event, MAX-TEXT-EVENTS, translation, Slices, slices, Translated, translated}
 use Rattle.text.specs.Answers.{translationReply, translatedOf}
-use Rattle.text.specs.Output.{output, Buffer, buffer, OUTPUT-BYTES, ofText, rendered}
+use Rattle.output.specs.Output.{output, Buffer, buffer, OUTPUT-BYTES, ofText, rendered}
 use Rattle.text.specs.declared.Translation.{Translation}
 use Rattle.text.specs.declared.Translation.the-variants.{Events, Refused as Turned}
 use Rattle.text.proofs.Accepted.{translation-at-most, Sized, After, slices-after}
-use Rattle.text.proofs.Rendered.{length-output}
+use Rattle.output.proofs.Rendered.{length-output}
 use Rattle.answer.specs.Answer.{Counts, zeros, judged, judgedEvents, printed, textAnswer, holding, answered, eventsRendered}
 
 -- ---- the judge's outcome, rendered

@@ -9,7 +9,7 @@ use lib.ListN.{length, take, drop, replicate}
 use Rattle.trace.specs.Trace.{WORKSPACE-CELLS}
 use Rattle.trace.specs.Outcome.{Reply, says, refused, Outcome, judgeOutcome}
 use Rattle.text.specs.Translation.{Event, MAX-TEXT-EVENTS, translation}
-use Rattle.text.specs.Output.{output, Buffer, buffer, OUTPUT-BYTES, rendered}
+use Rattle.output.specs.Output.{output, Buffer, buffer, OUTPUT-BYTES, rendered}
 
 -- Lent cells, all 0.
 unfoldable pub zeros : ℕ → List ℕ

@@ -14,7 +14,7 @@ use Rattle.trace.specs.Outcome.{sizes, orderRoom, cleared, firstOrder, secondOr
 use Rattle.text.specs.Form.{decimal}
 use Rattle.text.specs.Reading.{digit, isWhole, tooLarge, extended, field, line, parse}
 use Rattle.text.specs.Translation.{haltOperand, eventsOf, stackAfter, translation}
-use Rattle.text.specs.Output.{orderLines, output}
+use Rattle.output.specs.Output.{orderLines, output}
 use Rattle.answer.specs.Answer.{zeros, judged, judgedEvents, printed, textAnswer}
 
 -- `T0|fork(T1)|10`, `T1|w(V5)|20`, `T0|r(V5)|30`: `race 1 3`, `0 1 3 2`, `0 3 1 2`.

@@ -2,14 +2,14 @@
 use judge::WORKSPACE_CELLS;
 use text::Translation;
 use text::limits::MAX_EVENTS;
-pub use text::limits::OUTPUT_BYTES;
+pub use output::OUTPUT_BYTES;
 pub use text::limits::TEXT_BYTES;
 use trace::Answer;
 use trace::Refusal;
 ghost use mathlib.Core.Path.{_≡_};
 ghost use mathlib.Core.List.{[]};
 ghost use Rattle.trace.specs.Outcome.{refused};
-ghost use Rattle.text.specs.Output.{buffer, rendered};
+ghost use Rattle.output.specs.Output.{buffer, rendered};
 ghost use Rattle.answer.specs.Answer.{eventsRendered, answered, Counts};
 
 // Room for the judge of 2,048 events.
@@ -23,7 +23,7 @@ fn answer_events(kinds: &[u8], tasks: &[u16], operands: &[u16], out: &mut [u8]) 
     let mut first = [0u16; MAX_EVENTS];
     let mut second = [0u16; MAX_EVENTS];
     let answer = judge::judge(kinds, tasks, operands, &mut ws, &mut first, &mut second);
-    text::render(answer, kinds.len(), &first, &second, out)
+    output::render(answer, kinds.len(), &first, &second, out)
 }
 
 // A text's refusal, as the program's output. There are no orders.
@@ -31,7 +31,7 @@ fn answer_refusal(refusal: Refusal, out: &mut [u8]) -> usize
     ensures { λ r. ⌜ buffer (now (out .exit)) r ≡ rendered (refused (refusal .number) (refusal .position)) 0 [] [] (now (out .entry)) ⌝ }
 {
     let none = [0u16; 0];
-    text::render(Answer::Refused(refusal), 0, &none, &none, out)
+    output::render(Answer::Refused(refusal), 0, &none, &none, out)
 }
 
 // THE ANSWER to a text: the whole output stands at the start of the buffer, and the result is the number of its bytes. A buffer of fewer than

@@ -12,5 +12,3 @@ pub mod ImpliedHalts
 pub mod LineEvents
 pub mod Translating
 pub mod Accepted
-pub mod Rendering
-pub mod Rendered

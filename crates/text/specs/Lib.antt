@@ -2,6 +2,5 @@
 pub mod Form
 pub mod Reading
 pub mod Translation
-pub mod Output
 pub mod Answers
 pub mod Runs

@@ -1,22 +1,11 @@
--- Texts to go by, computed: document 01's example from its text to its whole output, the implied halts, and a text for each way to be refused.
--- Assumes nothing.
+-- Texts to go by, computed: document 01's example and its events, the implied halts, and a text for each way to be refused. Assumes nothing.
 use Prim.Native.Nat.{ℕ, zero, suc}
 use mathlib.Core.Path.{_≡_, refl}
-use mathlib.Core.List.{List, [], _∷_, _++_, map}
-use lib.ListN.{replicate}
-use Rattle.trace.specs.Trace.{traceOf, isKind, isAccess}
-use Rattle.trace.specs.Race.{conflicting}
-use Rattle.trace.specs.Line.{row, start, isEmpty, isHead, isMember, isLeftOf, putLeftOf, remove, forked, joined, halted, stepByKind, step}
-use Rattle.trace.specs.Line.{stepAfter, lineAfter}
-use Rattle.trace.specs.Line.{haltOperand as Line·haltOperand}
-use Rattle.trace.specs.Graph.{isPassed, graphEvents}
-use Rattle.trace.specs.Search.{someBelow, leastBelow, next?, child?, join?, arc?, chain?, reach?, conflict?, race?}
-use Rattle.trace.specs.Outcome.{says, refused, clean, orElse, raceWith, partner, failureAt, firstFailure, atEnd, orAtEnd, judgement, inD?}
-use Rattle.trace.specs.Outcome.{sizes, orderRoom, cleared, Outcome, firstOrder, secondOrder, judgeChecked, judgeOutcome}
+use mathlib.Core.List.{List, [], _∷_, _++_}
+use Rattle.trace.specs.Outcome.{says, refused}
 use Rattle.text.specs.Form.{decimal, printAll}
 use Rattle.text.specs.Reading.{digit, isWhole, tooLarge, extended, field, line, parse}
 use Rattle.text.specs.Translation.{Event, haltOperand, eventsOf, stackAfter, translation}
-use Rattle.text.specs.Output.{orderLines, output}
 use Rattle.text.specs.declared.cursor.Line.{Line}
 use Rattle.text.specs.declared.cursor.Operation.{Operation}
 use Rattle.text.specs.declared.cursor.Operation.the-variants.{Read, Write, Fork, Join}
@@ -48,33 +37,6 @@ exampleEvents = event 2 0 1 ∷ event 1 1 5 ∷ event 4 1 0 ∷ event 0 0 5 ∷ 
 pub example-translated : translation example ≡ says exampleEvents
 unfolding translation parse line field digit isWhole tooLarge extended eventsOf haltOperand stackAfter
 example-translated = refl
-
--- `race 1 3`, `0 1 3 2`, `0 3 1 2`
-abbrev exampleOutput : List ℕ
-exampleOutput =
-    114 ∷ 97 ∷ 99 ∷ 101 ∷ 32 ∷ 49 ∷ 32 ∷ 51 ∷ 10
-    ∷ 48 ∷ 32 ∷ 49 ∷ 32 ∷ 51 ∷ 32 ∷ 50 ∷ 10
-    ∷ 48 ∷ 32 ∷ 51 ∷ 32 ∷ 49 ∷ 32 ∷ 50 ∷ 10
-    ∷ []
-
--- What the judge answers and leaves, of these events.
-abbrev judged : Outcome
-judged =
-    judgeOutcome
-    (map (λ e. e .kind) exampleEvents)
-    (map (λ e. e .task) exampleEvents)
-    (map (λ e. e .operand) exampleEvents)
-    (replicate 12292 0)
-    (replicate 4 0)
-    (replicate 4 0)
-
--- "the whole output is"
-pub example-output : output (judged .answer) 4 (judged .first) (judged .second) ≡ exampleOutput
-unfolding output orderLines decimal judgeOutcome judgeChecked orderRoom sizes row traceOf graphEvents isPassed lineAfter stepAfter
-    step stepByKind start isKind isEmpty isHead isMember isLeftOf putLeftOf remove forked joined halted isAccess Line·haltOperand
-    judgement orAtEnd atEnd firstFailure orElse failureAt raceWith partner leastBelow race? conflict? conflicting reach? chain?
-    arc? next? child? join? someBelow firstOrder secondOrder inD? cleared
-example-output = refl
 
 -- ---- implied halts
 
@@ -142,14 +104,3 @@ too-many-reads = refl
 pub malformed-after-all : translation (printAll (reads 2048) ++ (84 ∷ [])) ≡ refused 14 2048
 unfolding translation parse line field digit isWhole tooLarge extended decimal eventsOf haltOperand stackAfter
 malformed-after-all = refl
-
--- ---- the other outputs
-
--- `clean 0` and `refused 14 3`, with their line feeds.
-pub clean-output : output (says clean) 0 [] [] ≡ 99 ∷ 108 ∷ 101 ∷ 97 ∷ 110 ∷ 32 ∷ 48 ∷ 10 ∷ []
-unfolding output decimal
-clean-output = refl
-
-pub refused-output : output (refused 14 3) 0 [] [] ≡ 114 ∷ 101 ∷ 102 ∷ 117 ∷ 115 ∷ 101 ∷ 100 ∷ 32 ∷ 49 ∷ 52 ∷ 32 ∷ 51 ∷ 10 ∷ []
-unfolding output decimal
-refused-output = refl

@@ -1,23 +1,17 @@
-// The library behind the program that reads trace text: `translate` turns a text into the three slices of a trace, `render` an answer into the
-// program's output.
+// From trace text to a trace: `translate` turns a text into the three slices that the judge takes.
 mod cursor;
 mod events;
 pub mod limits;
-mod output;
 mod reader;
 
 use crate::cursor::LineToken;
 use crate::events::Added;
 use crate::limits::MAX_EVENTS;
-use crate::limits::OUTPUT_BYTES;
 use crate::limits::STACK_CELLS;
-use trace::Answer;
 use trace::Refusal;
 ghost use mathlib.Core.Path.{_≡_};
-ghost use Rattle.trace.specs.Answers.{judgeReply};
 ghost use Rattle.text.specs.Translation.{malformedAt, tooManyAt, translation, translated, slices};
 ghost use Rattle.text.specs.Answers.{attemptOf, attempted, translatedOf};
-ghost use Rattle.text.specs.Output.{buffer, rendered};
 
 // What a text comes to: the number of its events, or why it is turned back.
 pub enum Translation {
@@ -109,24 +103,4 @@ pub fn translate(
         return spare;
     };
     translate_into(text, kinds, tasks, operands)
-}
-
-// The program's output for an answer about a trace of `count` events, and the number of its bytes; nothing where the buffer is shorter than
-// OUTPUT_BYTES or the race stands past 2,048 events.
-pub fn render(answer: Answer, count: usize, first: &[u16], second: &[u16], out: &mut [u8]) -> usize
-    ensures { λ r. ⌜ buffer (now (out .exit)) r ≡ rendered (judgeReply answer) count (now (first .entry)) (now (second .entry)) (now (out .entry)) ⌝ }
-{
-    if out.len() < OUTPUT_BYTES {
-        return 0;
-    }
-    match answer {
-        Answer::Clean => output::put_clean(out, count),
-        Answer::Race(s, t) => {
-            if MAX_EVENTS <= t {
-                return 0;
-            }
-            output::put_race(out, s, t, first, second)
-        }
-        Answer::Refused(refusal) => output::put_refused(out, refusal.number, refusal.position),
-    }
 }

@@ -8,6 +8,3 @@ pub const STACK_CELLS: usize = 2049;
 
 // The first bytes of a text decide its answer: 2,049 lines of at most 26 bytes. A caller with a buffer of this size is right on input of any length.
 pub const TEXT_BYTES: usize = 53274;
-
-// The size of a buffer that holds every output about a text's trace.
-pub const OUTPUT_BYTES: usize = 86066;

@@ -1,8 +1,8 @@
--- `text::render` meets its contract: each `return` is a row of `rendered`. Assumes nothing.
+-- `output::render` meets its contract: each `return` is a row of `rendered`. Assumes nothing.
 use borrow.Author.Needs.{needs}
-use Rattle.text.proofs.Rendered.{render-short, render-clean, render-race, render-past, render-refused}
-use Rattle.text.proofs.render.Statement.{statement}
-use Rattle.text.proofs.render.Tie as tie
+use Rattle.output.proofs.Rendered.{render-short, render-clean, render-race, render-past, render-refused}
+use Rattle.output.proofs.render.Statement.{statement}
+use Rattle.output.proofs.render.Tie as tie
 
 pub render-spec : {M : Type 1} → statement M
 render-spec =

@@ -3,13 +3,13 @@ use Prim.Native.Nat.{ℕ, _<_}
 use borrow.Author.Needs.{needs}
 use borrow.Fn.Kinds.{In}
 use borrow.Fn.PlainCycle.{Measures, is, falls, and}
-use Rattle.text.proofs.Rendering.{number-digit, number-more}
-use Rattle.text.proofs.output.put_number.Reads as put-number
-use Rattle.text.proofs.output.put_number.Kinds as put-number-kinds
-use Rattle.text.proofs.output.+put_number.Lts-put_number as put-number-lts
-use Rattle.text.proofs.output.put_byte.Reads as put-byte-reads
-use Rattle.text.proofs.output.+put_number.{statement}
-use Rattle.text.proofs.output.+put_number.Tie.{close}
+use Rattle.output.proofs.Rendering.{number-digit, number-more}
+use Rattle.output.proofs.bytes.put_number.Reads as put-number
+use Rattle.output.proofs.bytes.put_number.Kinds as put-number-kinds
+use Rattle.output.proofs.bytes.+put_number.Lts-put_number as put-number-lts
+use Rattle.output.proofs.bytes.put_byte.Reads as put-byte-reads
+use Rattle.output.proofs.bytes.+put_number.{statement}
+use Rattle.output.proofs.bytes.+put_number.Tie.{close}
 
 abbrev μ-put-number : Measures 1 put-number-kinds.ps ℕ
 μ-put-number κs a = a .1 .1 .0

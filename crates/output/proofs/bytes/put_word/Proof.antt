@@ -1,12 +1,12 @@
--- `text::output::put_word` meets its contract: the loop puts byte after byte (`Rendering`). Assumes nothing.
+-- `output::bytes::put_word` meets its contract: the loop puts byte after byte (`Rendering`). Assumes nothing.
 use Prim.Native.Nat.{_-_}
 use mathlib.Core.Path.{refl}
 use lib.ListN.{length, drop}
 use borrow.Author.Needs.{needs}
-use Rattle.text.specs.Output.{buffer, add}
-use Rattle.text.proofs.Rendering.{Putting, word-more, word-whole}
-use Rattle.text.proofs.output.put_word.Statement.{statement}
-use Rattle.text.proofs.output.put_word.Tie as tie
+use Rattle.output.specs.Output.{buffer, add}
+use Rattle.output.proofs.Rendering.{Putting, word-more, word-whole}
+use Rattle.output.proofs.bytes.put_word.Statement.{statement}
+use Rattle.output.proofs.bytes.put_word.Tie as tie
 
 abbrev Inv-loop : tie.InvT-loop
 Inv-loop out₀ at word place₀ i₀ out place i =

@@ -1,8 +1,8 @@
--- `text::output::put_order` meets its contract: no cell, or the first and the rest. Assumes nothing.
+-- `output::bytes::put_order` meets its contract: no cell, or the first and the rest. Assumes nothing.
 use borrow.Author.Needs.{needs}
-use Rattle.text.proofs.Rendering.{order-empty, order-line}
-use Rattle.text.proofs.output.put_order.Statement.{statement}
-use Rattle.text.proofs.output.put_order.Tie as tie
+use Rattle.output.proofs.Rendering.{order-empty, order-line}
+use Rattle.output.proofs.bytes.put_order.Statement.{statement}
+use Rattle.output.proofs.bytes.put_order.Tie as tie
 
 pub put-order-spec : {M : Type 1} → statement M
 put-order-spec =

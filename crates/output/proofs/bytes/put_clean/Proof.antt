@@ -1,8 +1,8 @@
--- `text::output::put_clean` meets its contract: a line of one number. Assumes nothing.
+-- `output::bytes::put_clean` meets its contract: a line of one number. Assumes nothing.
 use borrow.Author.Needs.{needs}
-use Rattle.text.proofs.Rendering.{one-number}
-use Rattle.text.proofs.output.put_clean.Statement.{statement}
-use Rattle.text.proofs.output.put_clean.Tie as tie
+use Rattle.output.proofs.Rendering.{one-number}
+use Rattle.output.proofs.bytes.put_clean.Statement.{statement}
+use Rattle.output.proofs.bytes.put_clean.Tie as tie
 
 pub put-clean-spec : {M : Type 1} → statement M
 put-clean-spec =

@@ -1,8 +1,8 @@
--- `text::output::put_pair` meets its contract: a line of two numbers. Assumes nothing.
+-- `output::bytes::put_pair` meets its contract: a line of two numbers. Assumes nothing.
 use borrow.Author.Needs.{needs}
-use Rattle.text.proofs.Rendering.{two-numbers}
-use Rattle.text.proofs.output.put_pair.Statement.{statement}
-use Rattle.text.proofs.output.put_pair.Tie as tie
+use Rattle.output.proofs.Rendering.{two-numbers}
+use Rattle.output.proofs.bytes.put_pair.Statement.{statement}
+use Rattle.output.proofs.bytes.put_pair.Tie as tie
 
 pub put-pair-spec : {M : Type 1} → statement M
 put-pair-spec =

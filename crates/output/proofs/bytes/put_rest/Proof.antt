@@ -1,12 +1,12 @@
--- `text::output::put_rest` meets its contract: the loop puts number after number (`Rendering`). Assumes nothing.
+-- `output::bytes::put_rest` meets its contract: the loop puts number after number (`Rendering`). Assumes nothing.
 use Prim.Native.Nat.{_-_}
 use mathlib.Core.Path.{refl}
 use lib.ListN.{length}
-use Rattle.text.specs.Output.{rest, buffer, add}
+use Rattle.output.specs.Output.{rest, buffer, add}
 use borrow.Author.Needs.{needs}
-use Rattle.text.proofs.Rendering.{Putting, part, rest-more, rest-whole}
-use Rattle.text.proofs.output.put_rest.Statement.{statement}
-use Rattle.text.proofs.output.put_rest.Tie as tie
+use Rattle.output.proofs.Rendering.{Putting, part, rest-more, rest-whole}
+use Rattle.output.proofs.bytes.put_rest.Statement.{statement}
+use Rattle.output.proofs.bytes.put_rest.Tie as tie
 
 abbrev Inv-loop : tie.InvT-loop
 Inv-loop out₀ at cells from to place₀ i₀ out place i =

@@ -1,9 +1,9 @@
--- `text::output::put_race` meets its contract: three lines. Assumes nothing.
+-- `output::bytes::put_race` meets its contract: three lines. Assumes nothing.
 use borrow.Author.Needs.{needs}
-use Rattle.text.specs.Output.{orderLines}
-use Rattle.text.proofs.Rendering.{three-lines}
-use Rattle.text.proofs.output.put_race.Statement.{statement}
-use Rattle.text.proofs.output.put_race.Tie as tie
+use Rattle.output.specs.Output.{orderLines}
+use Rattle.output.proofs.Rendering.{three-lines}
+use Rattle.output.proofs.bytes.put_race.Statement.{statement}
+use Rattle.output.proofs.bytes.put_race.Tie as tie
 
 returns : tie.Need-returns
 unfolding orderLines
