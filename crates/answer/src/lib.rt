@@ -1,8 +1,8 @@
 // The program's answer to a text, from its bytes to the bytes of the whole output.
 use judge::WORKSPACE_CELLS;
+pub use output::OUTPUT_BYTES;
 use text::Translation;
 use text::limits::MAX_EVENTS;
-pub use output::OUTPUT_BYTES;
 pub use text::limits::TEXT_BYTES;
 use trace::Answer;
 use trace::Refusal;
