@@ -2,7 +2,7 @@
 use judge::WORKSPACE_CELLS;
 pub use output::OUTPUT_BYTES;
 use text::Translation;
-use text::limits::MAX_EVENTS;
+use text::limits::MAX_TEXT_EVENTS;
 pub use text::limits::TEXT_BYTES;
 use trace::Answer;
 use trace::Refusal;
@@ -13,15 +13,15 @@ ghost use Rattle.output.specs.Output.{buffer, rendered};
 ghost use Rattle.answer.specs.Answer.{eventsRendered, answered, Counts};
 
 // Room for the judge of 2,048 events.
-const CELLS: usize = WORKSPACE_CELLS + MAX_EVENTS;
+const CELLS: usize = WORKSPACE_CELLS + MAX_TEXT_EVENTS;
 
 // What the judge says of the events of a text, as the program's output.
 fn answer_events(kinds: &[u8], tasks: &[u16], operands: &[u16], out: &mut [u8]) -> usize
     ensures { λ r. ⌜ buffer (now (out .exit)) r ≡ eventsRendered (now (kinds .entry)) (now (tasks .entry)) (now (operands .entry)) (now (out .entry)) ⌝ }
 {
     let mut ws = [0u16; CELLS];
-    let mut first = [0u16; MAX_EVENTS];
-    let mut second = [0u16; MAX_EVENTS];
+    let mut first = [0u16; MAX_TEXT_EVENTS];
+    let mut second = [0u16; MAX_TEXT_EVENTS];
     let answer = judge::judge(kinds, tasks, operands, &mut ws, &mut first, &mut second);
     output::render(answer, kinds.len(), &first, &second, out)
 }
@@ -40,9 +40,9 @@ pub fn answer(text: &[u8], out: &mut [u8]) -> usize
     ensures answer { λ r. ⌜ buffer (now (out .exit)) r ≡ answered (now (text .entry)) (now (out .entry)) ⌝ }
     ensures within { λ r. ⌜ Counts r (now (out .exit)) ⌝ }
 {
-    let mut kinds = [0u8; MAX_EVENTS];
-    let mut tasks = [0u16; MAX_EVENTS];
-    let mut operands = [0u16; MAX_EVENTS];
+    let mut kinds = [0u8; MAX_TEXT_EVENTS];
+    let mut tasks = [0u16; MAX_TEXT_EVENTS];
+    let mut operands = [0u16; MAX_TEXT_EVENTS];
     let translation = text::translate(text, &mut kinds, &mut tasks, &mut operands);
     match translation {
         Translation::Events(count) => {

@@ -257,7 +257,7 @@ module _ {tr : Trace} {n graph : ℕ} (forward : Forward tr graph) (inside : n <
       rw (eq-eqb (tr .kind n) WRITE k)
       (passed-two own own own-small own-small (read-moves k out-r) (write-moves out) (λ q. out (race-write k .0 q))))
 
-  passed-topped : tr .kind n ≡ READ → In (group writer) left → (In (group reader) left → ⊥) → Passed (toppedIn c o)
+  passed-topped : tr .kind n ≡ READ → In (group writer) left → (In (group reader) left → ⊥) → Passed (toppedIn c (topOf c writer) o)
   unfolding toppedIn
   passed-topped k i out =
       passed-two (topOf c writer) (topOf c reader) (top-is-top (l .forest) writer writer-small .below) (top-is-top (l .forest) reader reader-small .below)
@@ -269,7 +269,7 @@ module _ {tr : Trace} {n graph : ℕ} (forward : Forward tr graph) (inside : n <
   Verdict true d = Passed d
   Verdict false d = Racing × (d ≡ c)
 
-  behind-law : In (group writer) left → Verdict (behindIn c (tr .kind n) o .passed) (behindIn c (tr .kind n) o .cells)
+  behind-law : In (group writer) left → Verdict (behindIn c (topOf c writer) (tr .kind n) o .passed) (behindIn c (topOf c writer) (tr .kind n) o .cells)
   unfolding behindIn
   behind-law i =
       by-kind

@@ -17,7 +17,7 @@ use Rattle.forest.specs.Forest.{topOf, united, stays}
 use Rattle.forest.proofs.Cells.{zeroed-below}
 use Rattle.forest.proofs.United.{united-beyond}
 use Rattle.line.specs.declared.Line.{Line}
-use Rattle.line.specs.Cells.{IN-LEFT, USED, AGAINST-READ, AGAINST-WRITE, LEFT, ACTIVE, CLEARED, runningIn, nearestIn, startedIn, forkedIn, haltedIn, joinedIn}
+use Rattle.line.specs.Cells.{IN-LEFT, NOT-LEFT, USED, NOW-USED, AGAINST-READ, AGAINST-WRITE, LEFT, ACTIVE, CLEARED, runningIn, nearestIn, startedIn, forkedIn, haltedIn, joinedIn}
 use Rattle.line.specs.Held.{LocationsAt}
 
 -- The cells of the location tables are the same.
@@ -76,7 +76,7 @@ module _ (tr : Trace) (n : ℕ) (c : List ℕ) (line : Line) (other : isAccess (
     unfolding forkedIn
     locations-fork child e small new =
         locations-next tr n c _ left (tr .task n ∷ paused) left (child ∷ tr .task n ∷ paused) group group
-        (λ i a b. getD-set-other (set c (ACTIVE + line .active) child) (USED + child) i 1 0 (omega arith) ∙ getD-set-other c (ACTIVE + line .active) i child 0 (omega arith))
+        (λ i a b. getD-set-other (set c (ACTIVE + line .active) child) (USED + child) i NOW-USED 0 (omega arith) ∙ getD-set-other c (ACTIVE + line .active) i child 0 (omega arith))
         (λ k l y r. rw e (remembers-fork haltOperand tr (Against tr k l) run y r (none k l) (rw e at new)))
         locs
 
@@ -100,6 +100,6 @@ module _ (tr : Trace) (n : ℕ) (c : List ℕ) (line : Line) (other : isAccess (
       let a = topOf c (runningIn c line) in
       let b = topOf c (nearestIn c line) in
       locations-next tr n c _ (tr .operand n ∷ left) (tr .task n ∷ paused) left (tr .task n ∷ paused) group (λ t. rename (tr .operand n) (tr .task n) (group t))
-      (λ i far near. getD-set-other (united c a b) (IN-LEFT + stays c a b) i 0 0 (omega arith) ∙ united-beyond c a b small-a small-b i (omega arith))
+      (λ i far near. getD-set-other (united c a b) (IN-LEFT + stays c a b) i NOT-LEFT 0 (omega arith) ∙ united-beyond c a b small-a small-b i (omega arith))
       (λ k l y r. remembers-join haltOperand tr (Against tr k l) run y r (none k l))
       locs

@@ -22,7 +22,7 @@ use Rattle.forest.proofs.Frame.{SameTables, top-frame, forest-frame, forest-set
 use Rattle.forest.proofs.Merged.{OneOf, NoneOf, one-or-none, merged-one, merged-none}
 use Rattle.forest.proofs.United.{stays-one, united-length, united-beyond, forest-union, top-union, same-top-union, is-top-stays}
 use Rattle.line.specs.declared.Line.{Line}
-use Rattle.line.specs.Cells.{IN-LEFT, USED, LEFT, ACTIVE, CLEARED, depths, runningIn, nearestIn, isLeftIn, isUsedIn, startedIn, forkedIn, haltedIn, joinedIn}
+use Rattle.line.specs.Cells.{IN-LEFT, NOT-LEFT, USED, NOW-USED, LEFT, ACTIVE, CLEARED, depths, runningIn, nearestIn, isLeftIn, isUsedIn, startedIn, forkedIn, haltedIn, joinedIn}
 use Rattle.line.specs.Held.{SameBeyond, StackAt, LineCells}
 
 -- ---- stacks in cells
@@ -132,11 +132,11 @@ module _ {c : List ℕ} {line : Line} {left active used : List ℕ} {group : ℕ
   pushed = set c (ACTIVE + line .active) child
 
   -- the cells outside the two that change
-  fork-other : (i : ℕ) → i ≢ ACTIVE + line .active → i ≢ USED + child → getD (set pushed (USED + child) 1) i 0 ≡ getD c i 0
+  fork-other : (i : ℕ) → i ≢ ACTIVE + line .active → i ≢ USED + child → getD (set pushed (USED + child) NOW-USED) i 0 ≡ getD c i 0
   fork-other i a b =
-      getD-set-other pushed (USED + child) i 1 0 b ∙ getD-set-other c (ACTIVE + line .active) i child 0 a
+      getD-set-other pushed (USED + child) i NOW-USED 0 b ∙ getD-set-other c (ACTIVE + line .active) i child 0 a
 
-  fork-tables : SameTables c (set pushed (USED + child) 1)
+  fork-tables : SameTables c (set pushed (USED + child) NOW-USED)
   fork-tables =
       record {
         room = rw (length-set, length-set) (omega (arith, l .room));
@@ -146,11 +146,11 @@ module _ {c : List ℕ} {line : Line} {left active used : List ℕ} {group : ℕ
   used-wide : USED + child < length pushed
   used-wide = rw length-set (omega (arith, l .room))
 
-  fork-used : (t : ℕ) → t < TASKS → Tests (isUsedIn (set pushed (USED + child) 1) t) (In t (child ∷ used))
+  fork-used : (t : ℕ) → t < TASKS → Tests (isUsedIn (set pushed (USED + child) NOW-USED) t) (In t (child ∷ used))
   unfolding isUsedIn
   fork-used t h =
       either (same-or-not t child)
-      (λ e. rw (e, getD-set-same pushed (USED + child) 1 0 used-wide) (λ q. inl refl, λ i. refl))
+      (λ e. rw (e, getD-set-same pushed (USED + child) NOW-USED 0 used-wide) (λ q. inl refl, λ i. refl))
       (λ e.
       rw (fork-other (USED + t) (λ q. let d = l .active-depth in omega arith) (λ q. omega arith))
       (tests-map (λ i. inr i) (λ i. either i (λ q. absurd (e q)) (λ j. j)) (l .used-cells t h)))
@@ -167,8 +167,8 @@ module _ {c : List ℕ} {line : Line} {left active used : List ℕ} {group : ℕ
         active-depth = omega arith;
         left-cells = stack-frame c _ LEFT left (λ i h. fork-other (LEFT + i) (λ e. omega arith) (λ e. omega arith)) (l .left-cells);
         active-cells = (
-          ap (λ (i : ℕ). getD (set pushed (USED + child) 1) (ACTIVE + i) 0) (sym d)
-              ∙ (getD-set-other pushed (USED + child) (ACTIVE + line .active) 1 0 (omega arith)
+          ap (λ (i : ℕ). getD (set pushed (USED + child) NOW-USED) (ACTIVE + i) 0) (sym d)
+              ∙ (getD-set-other pushed (USED + child) (ACTIVE + line .active) NOW-USED 0 (omega arith)
               ∙ getD-set-same c (ACTIVE + line .active) child 0 (omega (arith, l .room))),
           stack-frame c _ ACTIVE active (λ i h. fork-other (ACTIVE + i) (λ e. omega arith) (λ e. omega arith)) (l .active-cells),
         );
@@ -282,18 +282,18 @@ module _ {c : List ℕ} {line : Line} {left paused used : List ℕ} {group : ℕ
       }
 
   abbrev exit : List ℕ
-  exit = set (united c a b) (IN-LEFT + stays c a b) 0
+  exit = set (united c a b) (IN-LEFT + stays c a b) NOT-LEFT
 
   stays-small : stays c a b < TASKS
   stays-small = is-top-stays unitable .below
 
   exit-other : (i : ℕ) → FOREST-CELLS ≤ i → i ≢ IN-LEFT + stays c a b → getD exit i 0 ≡ getD c i 0
   exit-other i far e =
-      getD-set-other (united c a b) (IN-LEFT + stays c a b) i 0 0 e
+      getD-set-other (united c a b) (IN-LEFT + stays c a b) i NOT-LEFT 0 e
       ∙ united-beyond c a b (unitable .joiner .below) (unitable .joined .below) i far
 
   exit-top : (t : ℕ) → t < TASKS → topOf exit t ≡ topOf (united c a b) t
-  exit-top = top-set (forest-union unitable) (IN-LEFT + stays c a b) 0 (omega arith)
+  exit-top = top-set (forest-union unitable) (IN-LEFT + stays c a b) NOT-LEFT (omega arith)
 
   -- a task's top is one of the two exactly if its group is one of the two
   one-group : (t : ℕ) → t < TASKS → OneOf a b (topOf c t) ↔ OneOf x v (group t)
@@ -320,7 +320,7 @@ module _ {c : List ℕ} {line : Line} {left paused used : List ℕ} {group : ℕ
       rw (exit-top t h, top-union unitable t h)
       (either (one-or-none a b (topOf c t))
       (λ one.
-      rw (merged-one a b (stays c a b) (topOf c t) one, getD-set-same (united c a b) (IN-LEFT + stays c a b) 0 0 (rw united-length (omega (arith, l .room, stays-small))))
+      rw (merged-one a b (stays c a b) (topOf c t) one, getD-set-same (united c a b) (IN-LEFT + stays c a b) NOT-LEFT 0 (rw united-length (omega (arith, l .room, stays-small))))
       (λ q. absurd (false≢true q), λ i. absurd (x-out (in-eq left (sym (named (one-group t h .0 one))) i))))
       (λ none.
       let at-top = top-is-top (l .forest) t h .below in
@@ -343,7 +343,7 @@ module _ {c : List ℕ} {line : Line} {left paused used : List ℕ} {group : ℕ
       rw (running-is l, nearest-is l)
       (record {
         room = rw (length-set, united-length) (l .room);
-        forest = forest-set (forest-union unitable) (IN-LEFT + stays c a b) 0 (omega arith);
+        forest = forest-set (forest-union unitable) (IN-LEFT + stays c a b) NOT-LEFT (omega arith);
         left-depth = omega arith;
         active-depth = l .active-depth;
         left-cells = stack-frame c exit LEFT left (λ i h. exit-other (LEFT + i) (omega arith) (λ e. omega (arith, stays-small))) (l .left-cells .1);
@@ -365,7 +365,7 @@ beyond-two c i j v w low-i low-j =
 module _ (c : List ℕ) (line : Line) where
   pub beyond-fork : (child : ℕ) → line .active ≤ TASKS → child < TASKS → SameBeyond c (forkedIn c line child)
   unfolding forkedIn
-  beyond-fork child fits small = beyond-two c (ACTIVE + line .active) (USED + child) child 1 (omega arith) (omega arith)
+  beyond-fork child fits small = beyond-two c (ACTIVE + line .active) (USED + child) child NOW-USED (omega arith) (omega arith)
 
   pub beyond-halt : line .left ≤ TASKS → topOf c (runningIn c line) < TASKS → SameBeyond c (haltedIn c line)
   unfolding haltedIn
@@ -381,7 +381,7 @@ module _ (c : List ℕ) (line : Line) where
       let b = topOf c (nearestIn c line) in
       record {
         long = rw length-set (united-length c a b);
-        same = λ k h. getD-set-other (united c a b) (IN-LEFT + stays c a b) k 0 0 (omega arith) ∙ united-beyond c a b small-a small-b k (omega arith);
+        same = λ k h. getD-set-other (united c a b) (IN-LEFT + stays c a b) k NOT-LEFT 0 (omega arith) ∙ united-beyond c a b small-a small-b k (omega arith);
       }
 
 -- The running task is the first of the active ones.

@@ -18,7 +18,7 @@ use Rattle.line.specs.declared.Rule.the-variants.{Access, Fork, Join, Ha
 use Rattle.line.specs.Rules.{ruleOf}
 use Rattle.line.specs.Cells.{IN-LEFT, AGAINST-READ, AGAINST-WRITE, isLeftIn}
 use Rattle.line.specs.Steps.{Stepped, goes, rowed, afterIn, rowIn, locationRow, locationIn, actIn}
-use Rattle.line.specs.Accesses.{againstRead, againstWrite, accessed, toppedIn, behindIn}
+use Rattle.line.specs.Accesses.{againstRead, againstWrite, Accessed, accessed, toppedIn, behindIn}
 
 -- ---- tests: u is what the code read of v
 
@@ -175,9 +175,13 @@ pub ruleset cases = (case-met, case-passed, both-met, accessed-cells, left-met, 
 
 -- A read whose own group is not left passes, and both groups are named by their tops.
 pub behind-topped : (c d e : List ℕ) (kind l top u w v : ℕ) → kind ≢ WRITE → u ≡ againstRead c l → (w ≡ topOf c u) × (w < TASKS) →
-    v ≡ getD c (IN-LEFT + w) 0 → v ≡ 0 → top ≡ topOf c (againstWrite c l) → d ≡ set c (AGAINST-WRITE + l) top → e ≡ set d (AGAINST-READ + l) w →
-    accessed true e ≡ behindIn c kind l
+    v ≡ getD c (IN-LEFT + w) 0 → v ≡ 0 → d ≡ set c (AGAINST-WRITE + l) top → e ≡ set d (AGAINST-READ + l) w → accessed true e ≡ behindIn c top kind l
 unfolding behindIn toppedIn
-behind-topped c d e kind l top u w v other task up flag clear writes first second =
+behind-topped c d e kind l top u w v other task up flag clear first second =
     let reads = up .0 in
     rw (ne-eqb kind WRITE other, left-passed c (againstRead c l) u w v task up flag clear) cc
+
+-- `behind` is handed the top that was found.
+pub behind-found : (c : List ℕ) (kind l top u : ℕ) (a : Accessed) → u ≡ againstWrite c l → (top ≡ topOf c u) × (top < TASKS) → a ≡ behindIn c top kind l →
+    a ≡ behindIn c (topOf c (againstWrite c l)) kind l
+behind-found c kind l top u a task up said = rw (top-read c (againstWrite c l) u top task up) at said

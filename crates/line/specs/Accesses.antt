@@ -40,16 +40,17 @@ secondTable kind = cond (eqb kind WRITE) AGAINST-READ AGAINST-WRITE
 unfoldable pub settledIn : List ℕ → ℕ → ℕ → ℕ → List ℕ
 settledIn c own kind l = set (set c (AGAINST-WRITE + l) own) (secondTable kind + l) own
 
--- The groups stay, each named by its top.
-unfoldable pub toppedIn : List ℕ → ℕ → List ℕ
-toppedIn c l = set (set c (AGAINST-WRITE + l) (topOf c (againstWrite c l))) (AGAINST-READ + l) (topOf c (againstRead c l))
+-- The group that a write is held against is that of `top`. The one that a read is held against stays, named by its top.
+unfoldable pub toppedIn : List ℕ → ℕ → ℕ → List ℕ
+toppedIn c top l = set (set c (AGAINST-WRITE + l) top) (AGAINST-READ + l) (topOf c (againstRead c l))
 
--- The group that a write is held against is left of the running task.
-unfoldable pub behindIn : List ℕ → ℕ → ℕ → Accessed
-behindIn c kind l = cond (eqb kind WRITE) (accessed false c) (cond (isLeftIn c (againstRead c l)) (accessed false c) (accessed true (toppedIn c l)))
+-- The group of `top`, that a write is held against, is left of the running task.
+unfoldable pub behindIn : List ℕ → ℕ → ℕ → ℕ → Accessed
+behindIn c top kind l =
+    cond (eqb kind WRITE) (accessed false c) (cond (isLeftIn c (againstRead c l)) (accessed false c) (accessed true (toppedIn c top l)))
 
 -- An access of kind `kind` of the location l by the running task, whose group `own` is of. A failed one leaves the cells.
 unfoldable pub accessIn : List ℕ → ℕ → ℕ → ℕ → Accessed
 accessIn c own kind l =
     cond (eqb (againstWrite c l) own && eqb (againstRead c l) own) (accessed true c)
-    (cond (isLeftIn c (againstWrite c l)) (behindIn c kind l) (accessed true (settledIn c own kind l)))
+    (cond (isLeftIn c (againstWrite c l)) (behindIn c (topOf c (againstWrite c l)) kind l) (accessed true (settledIn c own kind l)))

@@ -59,13 +59,20 @@ isUsedIn c t = not (eqb (getD c (USED + t) 0) 0)
 
 -- ---- what the moves leave
 
+-- What is stored in USED for a task that is forked, and in IN-LEFT for a group that is joined.
+abbrev pub NOW-USED : ℕ
+NOW-USED = 1
+
+abbrev pub NOT-LEFT : ℕ
+NOT-LEFT = 0
+
 -- Task 0 alone, used, and running.
 unfoldable pub startedIn : List ℕ → List ℕ
 startedIn c = set (set (zeroed CLEARED c) (USED + 0) 1) (ACTIVE + 0) 0
 
 -- The child is used, and on top of the active tasks.
 unfoldable pub forkedIn : List ℕ → Line → ℕ → List ℕ
-forkedIn c line child = set (set c (ACTIVE + line .active) child) (USED + child) 1
+forkedIn c line child = set (set c (ACTIVE + line .active) child) (USED + child) NOW-USED
 
 -- The running task's group is now left of the running task.
 unfoldable pub haltedIn : List ℕ → Line → List ℕ
@@ -76,4 +83,4 @@ unfoldable pub joinedIn : List ℕ → Line → List ℕ
 joinedIn c line =
     let a = topOf c (runningIn c line) in
     let b = topOf c (nearestIn c line) in
-    set (united c a b) (IN-LEFT + stays c a b) 0
+    set (united c a b) (IN-LEFT + stays c a b) NOT-LEFT

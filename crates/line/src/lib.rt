@@ -302,8 +302,7 @@ fn settle(ws: &mut [u16], own: u16, kind: u8, location: u16)
 // Else both groups stay; each is named by its top from now on, so that the next search is short.
 fn behind(ws: &mut [u16], top: u16, kind: u8, location: u16) -> bool
     requires { ⌜ Accessible (now ws) top location ⌝ }
-    requires { ⌜ top ≡ topOf (now ws) (againstWrite (now ws) location) ⌝ }
-    ensures { λ r. ⌜ accessed r (now (ws .exit)) ≡ behindIn (now (ws .entry)) kind location ⌝ }
+    ensures { λ r. ⌜ accessed r (now (ws .exit)) ≡ behindIn (now (ws .entry)) top kind location ⌝ }
 {
     if kind == WRITE {
         return false;

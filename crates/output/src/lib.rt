@@ -1,7 +1,7 @@
 // From an answer to the program's output: `render` writes the bytes to a lent buffer.
 mod bytes;
 
-use text::limits::MAX_EVENTS;
+use text::limits::MAX_TEXT_EVENTS;
 use trace::Answer;
 ghost use mathlib.Core.Path.{_≡_};
 ghost use Rattle.trace.specs.Answers.{judgeReply};
@@ -21,7 +21,7 @@ pub fn render(answer: Answer, count: usize, first: &[u16], second: &[u16], out: 
     match answer {
         Answer::Clean => bytes::put_clean(out, count),
         Answer::Race(s, t) => {
-            if MAX_EVENTS <= t {
+            if MAX_TEXT_EVENTS <= t {
                 return 0;
             }
             bytes::put_race(out, s, t, first, second)

@@ -1,7 +1,7 @@
 // The events of one line, with the halts that it implies, and the stack of tasks.
 use crate::cursor::Line;
 use crate::cursor::Operation;
-use crate::limits::MAX_EVENTS;
+use crate::limits::MAX_TEXT_EVENTS;
 use crate::limits::STACK_CELLS;
 ghost use mathlib.Core.Path.{_≡_};
 ghost use Prim.Native.Nat.{_-_, _≤_, _<_};
@@ -52,9 +52,9 @@ fn halt_operand(stack: &[u16; STACK_CELLS], place: usize) -> u16
 
 // Event `at` of the trace.
 fn store_event(
-    kinds: &mut [u8; MAX_EVENTS],
-    tasks: &mut [u16; MAX_EVENTS],
-    operands: &mut [u16; MAX_EVENTS],
+    kinds: &mut [u8; MAX_TEXT_EVENTS],
+    tasks: &mut [u16; MAX_TEXT_EVENTS],
+    operands: &mut [u16; MAX_TEXT_EVENTS],
     at: usize,
     kind: u8,
     task: u16,
@@ -75,9 +75,9 @@ fn halt_above(
     stack: &[u16; STACK_CELLS],
     base: usize,
     depth: usize,
-    kinds: &mut [u8; MAX_EVENTS],
-    tasks: &mut [u16; MAX_EVENTS],
-    operands: &mut [u16; MAX_EVENTS],
+    kinds: &mut [u8; MAX_TEXT_EVENTS],
+    tasks: &mut [u16; MAX_TEXT_EVENTS],
+    operands: &mut [u16; MAX_TEXT_EVENTS],
     from: usize,
 )
     requires { ⌜ HaltsFit base depth from ⌝ }
@@ -117,9 +117,9 @@ pub fn add_line(
     line: Line,
     stack: &mut [u16; STACK_CELLS],
     depth: usize,
-    kinds: &mut [u8; MAX_EVENTS],
-    tasks: &mut [u16; MAX_EVENTS],
-    operands: &mut [u16; MAX_EVENTS],
+    kinds: &mut [u8; MAX_TEXT_EVENTS],
+    tasks: &mut [u16; MAX_TEXT_EVENTS],
+    operands: &mut [u16; MAX_TEXT_EVENTS],
     count: usize,
 ) -> Added
     requires { ⌜ StackAfter count depth (now stack) ⌝ }
@@ -131,7 +131,7 @@ pub fn add_line(
     let operation = line.operation;
     let base = unwind(stack, depth, task);
     let own = count + (depth - base);
-    if MAX_EVENTS <= own {
+    if MAX_TEXT_EVENTS <= own {
         return Added::TooMany;
     }
     halt_above(stack, base, depth, kinds, tasks, operands, count);

@@ -6,7 +6,7 @@ mod reader;
 
 use crate::cursor::LineToken;
 use crate::events::Added;
-use crate::limits::MAX_EVENTS;
+use crate::limits::MAX_TEXT_EVENTS;
 use crate::limits::STACK_CELLS;
 use trace::Refusal;
 ghost use mathlib.Core.Path.{_≡_};
@@ -45,9 +45,9 @@ fn too_many(line: usize) -> Refusal
 // The events of a text, stored from the start of the three slices; after a refusal the slices hold anything.
 fn translate_into(
     text: &[u8],
-    kinds: &mut [u8; MAX_EVENTS],
-    tasks: &mut [u16; MAX_EVENTS],
-    operands: &mut [u16; MAX_EVENTS],
+    kinds: &mut [u8; MAX_TEXT_EVENTS],
+    tasks: &mut [u16; MAX_TEXT_EVENTS],
+    operands: &mut [u16; MAX_TEXT_EVENTS],
 ) -> Translation
     ensures { λ r. ⌜ attemptOf r (slices (now (kinds .exit)) (now (tasks .exit)) (now (operands .exit)))
         ≡ attempted (translation (now (text .entry))) 0 (slices (now (kinds .entry)) (now (tasks .entry)) (now (operands .entry))) ⌝ }
@@ -83,16 +83,16 @@ fn translate_into(
 // The events of a text, and how many there are. A refusal leaves the slices as they were: the text is translated to spare ones first.
 pub fn translate(
     text: &[u8],
-    kinds: &mut [u8; MAX_EVENTS],
-    tasks: &mut [u16; MAX_EVENTS],
-    operands: &mut [u16; MAX_EVENTS],
+    kinds: &mut [u8; MAX_TEXT_EVENTS],
+    tasks: &mut [u16; MAX_TEXT_EVENTS],
+    operands: &mut [u16; MAX_TEXT_EVENTS],
 ) -> Translation
     ensures { λ r. ⌜ translatedOf r (slices (now (kinds .exit)) (now (tasks .exit)) (now (operands .exit)))
         ≡ translated (now (text .entry)) (slices (now (kinds .entry)) (now (tasks .entry)) (now (operands .entry))) ⌝ }
 {
-    let mut spare_kinds = [0u8; MAX_EVENTS];
-    let mut spare_tasks = [0u16; MAX_EVENTS];
-    let mut spare_operands = [0u16; MAX_EVENTS];
+    let mut spare_kinds = [0u8; MAX_TEXT_EVENTS];
+    let mut spare_tasks = [0u16; MAX_TEXT_EVENTS];
+    let mut spare_operands = [0u16; MAX_TEXT_EVENTS];
     let spare = translate_into(
         text,
         &mut spare_kinds,

@@ -6,7 +6,7 @@ use denote.Ref.{now}
 use lib.Dec.{eqb}
 use Rattle.trace.proofs.Tests.{either}
 use Rattle.line.specs.Accesses.{againstRead, againstWrite, accessIn}
-use Rattle.line.proofs.Rows.{read-other, first-passed, second-passed, top-read, cases}
+use Rattle.line.proofs.Rows.{read-other, first-passed, second-passed, behind-found, cases}
 use Rattle.line.proofs.access.Statement.{statement}
 use Rattle.line.proofs.access.Tie as tie
 
@@ -33,11 +33,9 @@ access-spec =
     (λ c. search cases)
     (λ c κs. search needs)
     (λ c κs. search needs)
-    (λ c κs.
-    let found = c .before .before .before .before in
-    (search needs, top-read _ _ _ _ (found .before .before .before .cell .ensures) (found .top-of .ensures)))
+    (λ c κs. search needs)
     (λ c. search needs)
-    (λ c. search (cases, unsettled (c .before .before .before .before .before .before .before .before .before)))
+    (λ c. search (cases, behind-found, unsettled (c .before .before .before .before .before .before .before .before .before)))
     (λ c κs. search needs)
     (λ c. search needs)
     (λ c. search (cases, unsettled (c .before .before .before .before .before .before .before .before .before))))
