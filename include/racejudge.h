@@ -12,6 +12,16 @@
  *   operands  read and write: the location, 0 to 1,023; fork and join: the task, 0 to 1,023; halt: 0
  * At most RACEJUDGE_MAX_EVENTS events.
  *
+ * THE RULES. The run is serial. At the start the line of tasks holds task 0 alone, and it runs. Only the
+ * running task acts. A fork puts the child, whose number is new, immediately left of its parent; the
+ * parent pauses and the child runs. A halt ends the running task: it stays in the line, and its paused
+ * parent runs again. After the halt of task 0 no event follows. A join names the task immediately left
+ * of the running one, which leaves the line. A trace may end anywhere.
+ *
+ * ARCS lead from each event to the same task's next event, from a fork to the child's first event, and
+ * from a task's halt to the join that names it. p REACHES q if p = q or a chain of arcs leads from p to
+ * q. Two accesses RACE if they have one location, at least one is a write, and neither reaches the other.
+ *
  * THE WORKSPACE has at least RACEJUDGE_WORKSPACE + n cells for n events, with any contents. After the
  * refusals 1 to 4 it is unchanged. After every other answer its first RACEJUDGE_WORKSPACE + n cells
  * are 0 and the rest is unchanged.

@@ -11,32 +11,32 @@ use Rattle.report.proofs.partner.Statement.{statement}
 use Rattle.report.proofs.partner.Tie as tie
 
 abbrev Inv-loop : tie.InvT-loop
-Inv-loop kinds tasks operands ws t s₀ s = (s ≤ t) × ((p : ℕ) → p < s → unorderedIn (traceOf kinds tasks operands) ws t p ≡ false)
+Inv-loop kinds tasks operands ws t s₀ s = ((p : ℕ) → p < s → unorderedIn (traceOf kinds tasks operands) ws t p ≡ false) × (s ≤ t)
 
 abbrev μ-loop : tie.MeasureT-loop
 μ-loop kinds tasks operands ws t s₀ s = t - s
 
 loop-holds : tie.Need-loop-holds Inv-loop μ-loop
-loop-holds c = (omega arith, λ p h. absurd (omega arith))
+loop-holds c = (λ p h. absurd (omega arith), omega arith)
 
 returns : tie.Need-returns Inv-loop μ-loop
 returns c =
     record {
       within = search needs;
       passed = λ h. sym (c .before .is-partner .ensures) ∙ c .if1 .taken;
-      none-before = c .before .before .before .loop .inv .1;
+      none-before = c .before .before .before .loop .inv .0;
     }
 
 loop-again : tie.Need-loop-again Inv-loop μ-loop
 loop-again c = (
+  below-more _ (c .before .before .before .loop .s) (c .before .before .before .loop .inv .0) (sym (c .before .is-partner .ensures) ∙ c .if1 .left),
   search needs,
-  below-more _ (c .before .before .before .loop .s) (c .before .before .before .loop .inv .1) (sym (c .before .is-partner .ensures) ∙ c .if1 .left),
 )
 
 returns-2 : tie.Need-returns-2 Inv-loop μ-loop
 returns-2 c =
     let inv = c .before .loop .inv in
-    record { within = inv .0; passed = λ h. absurd (search needs); none-before = inv .1 }
+    record { within = inv .1; passed = λ h. absurd (search needs); none-before = inv .0 }
 
 pub partner-spec : {M : Type 1} → statement M
 partner-spec =
