@@ -108,8 +108,7 @@ fn fork(ws: &mut [u16], line: Line, child: u16)
     requires { ⌜ child < TASKS ⌝ }
     ensures { λ _. ⌜ now (ws .exit) ≡ forkedIn (now (ws .entry)) line child ⌝ }
 {
-    let a = line.active;
-    ws[ACTIVE + a] = child;
+    ws[ACTIVE + line.active] = child;
     forest::put(ws, USED, child, 1);
 }
 
@@ -121,8 +120,7 @@ fn halt(ws: &mut [u16], line: Line)
 {
     let x = running(ws, line);
     let top = top_of(ws, x);
-    let n = line.left;
-    ws[LEFT + n] = x;
+    ws[LEFT + line.left] = x;
     forest::put(ws, IN_LEFT, top, 1);
 }
 

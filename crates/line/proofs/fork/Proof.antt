@@ -11,9 +11,9 @@ unfolding forkedIn
 fork-spec =
     tie.close
     (tie.spec
-    (λ c. omega (arith, depths-fit (c .before .pre .0)))
-    (λ c. omega (arith, depths-fit (c .before .pre .0)))
-    (λ c. omega (arith, depths-fit (c .before .pre .0)))
-    (λ c κs. simp length-set (omega (arith, depths-fit (c .before .before .pre .0))))
+    (λ c. omega (arith, depths-fit (c .before .before .pre .0)))
+    (λ c. omega (arith, depths-fit (c .before .before .pre .0)))
+    (λ c. omega (arith, depths-fit (c .before .before .pre .0)))
+    (λ c κs. simp length-set (omega (arith, depths-fit (c .before .before .before .pre .0))))
     (λ c. simp length-set at (c .before .before .put .kept .0))
     (λ c. cc))

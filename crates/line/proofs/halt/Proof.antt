@@ -14,9 +14,9 @@ halt-spec =
     (tie.spec
     (λ c κs. search needs)
     (λ c κs. search (needs, running-small))
-    (λ c. omega (arith, depths-fit (c .before .before .before .before .before .pre .0)))
-    (λ c. omega (arith, depths-fit (c .before .before .before .before .before .pre .0)))
-    (λ c. omega (arith, depths-fit (c .before .before .before .before .before .pre .0)))
-    (λ c κs. simp length-set (omega (arith, depths-fit (c .before .before .before .before .before .before .pre .0))))
+    (λ c. omega (arith, depths-fit (c .before .before .before .before .before .before .pre .0)))
+    (λ c. omega (arith, depths-fit (c .before .before .before .before .before .before .pre .0)))
+    (λ c. omega (arith, depths-fit (c .before .before .before .before .before .before .pre .0)))
+    (λ c κs. simp length-set (omega (arith, depths-fit (c .before .before .before .before .before .before .before .pre .0))))
     (λ c. simp length-set at (c .before .before .put .kept .0))
     (λ c. cc))
