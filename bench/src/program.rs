@@ -1,13 +1,31 @@
-//! What the programs share: the words of the command line, the output, and how they end.
+//! What the programs share: the words of the command line, the input and output, and how they end.
 //! Status 0: done; 1: a check failed; 2: the work could not be done, told on standard error.
 
-use std::io::{self, Write};
+use std::fs::File;
+use std::io::{self, Read, Write};
+use std::mem::ManuallyDrop;
+use std::os::fd::FromRawFd;
 use std::process::exit;
+
+/// Standard input (0) or output (1) as a file. Rust's own `stdin` and `stdout` take one that is not
+/// open for reading or writing for an empty one, and tell no error.
+fn standard(descriptor: i32) -> ManuallyDrop<File> {
+    // Safe: Rust has both open before `main`, and this file is never closed.
+    ManuallyDrop::new(unsafe { File::from_raw_fd(descriptor) })
+}
+
+/// The whole of standard input. A read that fails ends the program.
+pub fn input() -> Vec<u8> {
+    let mut input = Vec::new();
+    if let Err(error) = standard(0).read_to_end(&mut input) {
+        trouble(&format!("cannot read the text: {error}"));
+    }
+    input
+}
 
 /// Writes to standard output at once. A write that fails ends the program.
 pub fn print(text: &str) {
-    let mut out = io::stdout().lock();
-    if let Err(error) = out.write_all(text.as_bytes()).and_then(|()| out.flush()) {
+    if let Err(error) = standard(1).write_all(text.as_bytes()) {
         trouble(&format!("cannot write the output: {error}"));
     }
 }
@@ -24,7 +42,8 @@ pub fn mismatch(text: &str) -> ! {
 
 /// Ends the program where the work could not be done.
 pub fn trouble(text: &str) -> ! {
-    eprintln!("{text}");
+    // Where this write fails too, the status alone can tell.
+    _ = writeln!(io::stderr(), "{text}");
     exit(2)
 }
 
