@@ -4,24 +4,42 @@ use crate::builder::Builder;
 use crate::rng::Rng;
 use crate::trace::*;
 
-/// A trace of about n events that keeps the rules, with its own mix of kinds, few or many tasks and
-/// locations. `care` in 100 accesses that would race are left out.
-pub fn valid(rng: &mut Rng, n: usize, care: usize) -> Trace {
-    let mut b = Builder::shuffled(rng);
-    let tasks = rng.one_of(&[1, 3, 10, 100, 1_023]);
-    let locations = rng.one_of(&[1, 2, 8, 64, 1_024]);
-    let (forks, halts, joins) = (1 + rng.below(20), 1 + rng.below(20), rng.one_of(&[0, 4, 20]));
-    let accesses = rng.one_of(&[6, 20, 100]);
-    let whole = forks + halts + joins + accesses;
-    let writes = rng.below(101);
-    let reserve = b.numbers_left() - tasks;
-    for _ in 0..2 * n {
-        if b.trace.len() >= n {
-            break;
+/// What a trace is drawn from: a weight for each kind, and the bounds.
+struct Mix {
+    forks: usize,
+    halts: usize,
+    joins: usize,
+    accesses: usize,
+    locations: usize,
+    /// In 100 accesses.
+    writes: usize,
+    /// In 100 accesses that would race, those that are left out.
+    care: usize,
+    /// Task numbers that are not used.
+    reserve: usize,
+}
+
+impl Mix {
+    fn drawn(rng: &mut Rng, numbers: usize, care: usize) -> Self {
+        let tasks = rng.one_of(&[1, 3, 10, 100, 1_023]);
+        Mix {
+            locations: rng.one_of(&[1, 2, 8, 64, 1_024]),
+            forks: 1 + rng.below(20),
+            halts: 1 + rng.below(20),
+            joins: rng.one_of(&[0, 4, 20]),
+            accesses: rng.one_of(&[6, 20, 100]),
+            writes: rng.below(101),
+            care,
+            reserve: numbers - tasks,
         }
-        let pick = rng.below(whole);
+    }
+
+    /// One event more, or none where the one that is drawn cannot be or is left out.
+    fn step(&self, b: &mut Builder, rng: &mut Rng) {
+        let Mix { forks, halts, joins, accesses, .. } = *self;
+        let pick = rng.below(forks + halts + joins + accesses);
         if pick < forks {
-            if b.numbers_left() > reserve {
+            if b.numbers_left() > self.reserve {
                 b.fork();
             }
         } else if pick < forks + halts {
@@ -33,11 +51,24 @@ pub fn valid(rng: &mut Rng, n: usize, care: usize) -> Trace {
                 b.join();
             }
         } else {
-            let (kind, l) = (rng.chance(writes, 100) as u8, rng.cell(locations));
-            if !(rng.chance(care, 100) && b.would_race(kind, l)) {
+            let (kind, l) = (rng.chance(self.writes, 100) as u8, rng.cell(self.locations));
+            if !(rng.chance(self.care, 100) && b.would_race(kind, l)) {
                 b.access(kind, l);
             }
         }
+    }
+}
+
+/// A trace of about n events that keeps the rules, with its own mix of kinds, few or many tasks and
+/// locations. `care` in 100 accesses that would race are left out.
+pub fn valid(rng: &mut Rng, n: usize, care: usize) -> Trace {
+    let mut b = Builder::shuffled(rng);
+    let mix = Mix::drawn(rng, b.numbers_left(), care);
+    for _ in 0..2 * n {
+        if b.trace.len() >= n {
+            break;
+        }
+        mix.step(&mut b, rng);
     }
     if rng.chance(1, 8) {
         while b.depth() > 0 {
