@@ -8,7 +8,7 @@ use racejudge_bench::ffi::{Judge, Told, ALIGNED, HAND, PROVED};
 use racejudge_bench::program::mismatch;
 use racejudge_bench::rng::Rng;
 use racejudge_bench::trace::*;
-use std::fmt::Debug;
+use std::fmt::{Debug, Display};
 
 const JUDGES: [&Judge; 3] = [&PROVED, &HAND, &ALIGNED];
 
@@ -277,6 +277,13 @@ fn answer_difference(told: Told, wanted: impl Into<Told>) -> Option<String> {
 
 fn trace_difference(left: &Trace, lent: &Trace) -> Option<String> {
     (left != lent).then(|| "changed".to_string())
+}
+
+/// Ends the test where something is not what it is known to be.
+pub fn known<T: Debug + PartialEq>(found: T, wanted: T, on: impl Display) {
+    if found != wanted {
+        mismatch(&format!("found {found:?}, known to be {wanted:?}\non {on}"));
+    }
 }
 
 /// Ends the test at the first difference.

@@ -1,6 +1,6 @@
 //! The runs and texts of document 01, with its own answers.
 
-use crate::compare::Test;
+use crate::compare::{known, Test};
 use racejudge_bench::ancestors::Ancestors;
 use racejudge_bench::text;
 use racejudge_bench::trace::Answer::{Clean, Race, Refused};
@@ -65,21 +65,21 @@ fn trace(run: &str) -> Trace {
 
 pub fn runs(test: &mut Test) {
     for (run, answer) in RUNS {
-        assert_eq!(test.judge(&trace(run)), answer, "the slow judge on {run}");
+        known(test.judge(&trace(run)), answer, run);
     }
     for (run, [first, second]) in ORDERS {
         let (trace, n) = (trace(run), run.split(", ").count());
         let orders = Ancestors::default().judge(&trace, WORKSPACE + n, n, n).orders;
-        assert_eq!(orders, Some((first.to_vec(), second.to_vec())), "the slow judge on {run}");
+        known(orders, Some((first.to_vec(), second.to_vec())), run);
     }
-    assert_eq!(test.ordering(&Trace::default(), 0, 0), Ordering::Refused(13, 0));
+    known(test.ordering(&Trace::default(), 0, 0), Ordering::Refused(13, 0), "no events");
 }
 
 /// The slow judge's own way from a text to the output, which the owner compares with the program's.
 pub fn texts() {
     let said = |input: &[u8], output: &str| {
         let shown = String::from_utf8_lossy(&input[..input.len().min(80)]);
-        assert_eq!(text::answer(input), output, "the slow judge on {shown}");
+        known(text::answer(input), output.to_string(), format_args!("the text {shown:?}"));
     };
     said(b"T0|fork(T1)|10\nT1|w(V5)|20\nT0|r(V5)|30\n", "race 1 3\n0 1 3 2\n0 3 1 2\n");
     said(b"", "clean 0\n");

@@ -1,6 +1,6 @@
 //! The limits: 32,768 events, 1,024 tasks, chains of 10 links, and lent slices of every length.
 
-use crate::compare::Test;
+use crate::compare::{known, Test};
 use racejudge_bench::builder::Builder;
 use racejudge_bench::extent::{Extent, LIMITS};
 use racejudge_bench::rng::Rng;
@@ -21,14 +21,14 @@ fn reads(n: usize) -> Trace {
 
 fn events(test: &mut Test) {
     let (most, over) = (reads(MAX_EVENTS), reads(MAX_EVENTS + 1));
-    assert_eq!(test.judge(&most), Answer::Clean);
-    assert_eq!(test.ordering(&most, 5, MAX_EVENTS - 1), Ordering::Yes);
-    assert_eq!(test.ordering(&most, MAX_EVENTS - 1, 5), Ordering::No);
-    assert_eq!(test.judge(&over), Answer::Refused(2, 0));
-    assert_eq!(test.ordering(&over, 0, 0), Ordering::Refused(2, 0));
+    known(test.judge(&most), Answer::Clean, &most);
+    known(test.ordering(&most, 5, MAX_EVENTS - 1), Ordering::Yes, &most);
+    known(test.ordering(&most, MAX_EVENTS - 1, 5), Ordering::No, &most);
+    known(test.judge(&over), Answer::Refused(2, 0), &over);
+    known(test.ordering(&over, 0, 0), Ordering::Refused(2, 0), &over);
     // The first condition that holds decides.
-    assert_eq!(test.judge_with(&over, 0, 0, 0), Answer::Refused(2, 0));
-    assert_eq!(test.ordering_with(&over, 0, 0, 0), Ordering::Refused(2, 0));
+    known(test.judge_with(&over, 0, 0, 0), Answer::Refused(2, 0), &over);
+    known(test.ordering_with(&over, 0, 0, 0), Ordering::Refused(2, 0), &over);
 }
 
 /// Task 0 and 1,023 others. `each` is done for every one of them, `last` once at the end.
@@ -84,11 +84,11 @@ fn tasks(test: &mut Test) {
         all_tasks(beside, joined_late),
     ];
     for trace in clean {
-        assert_eq!(Extent::of(&trace).tasks, LIMITS.tasks);
-        assert_eq!(test.both(&trace, 20), Answer::Clean);
+        known(Extent::of(&trace).tasks, LIMITS.tasks, format_args!("the tasks of {trace}"));
+        known(test.both(&trace, 20), Answer::Clean, &trace);
     }
     let racing = all_tasks(beside, |b| b.write(7));
-    assert_eq!(test.both(&racing, 20), Answer::Race(1, racing.len() - 1));
+    known(test.both(&racing, 20), Answer::Race(1, racing.len() - 1), &racing);
 }
 
 /// Task 0 writes what the deepest task of a halted group of 512 touched: the search climbs 9 links.
@@ -107,18 +107,18 @@ fn race_over_a_chain(rng: &mut Rng) -> Trace {
 fn chains(test: &mut Test) {
     for _ in 0..4 {
         let trace = binomial(MAX_EVENTS, &mut test.rng);
-        assert_eq!(Extent::of(&trace).links, LIMITS.links);
-        assert_eq!(test.both(&trace, 8), Answer::Clean);
+        known(Extent::of(&trace).links, LIMITS.links, format_args!("the links of {trace}"));
+        known(test.both(&trace, 8), Answer::Clean, &trace);
         // The first access is that of the deepest task.
         let p = trace.kinds.iter().position(|&kind| kind <= WRITE).expect("an access");
-        assert_eq!(test.ordering(&trace, p, MAX_EVENTS - 1), Ordering::Yes);
+        known(test.ordering(&trace, p, MAX_EVENTS - 1), Ordering::Yes, &trace);
     }
     let trace = regrown(MAX_EVENTS, &mut test.rng);
-    assert_eq!(Extent::of(&trace).links, 7);
+    known(Extent::of(&trace).links, 7, format_args!("the links of {trace}"));
     let trace = race_over_a_chain(&mut test.rng);
     let t = trace.len() - 1;
-    assert_eq!(test.judge(&trace), Answer::Race(10, t));
-    assert_eq!(test.ordering(&trace, 10, t), Ordering::No);
+    known(test.judge(&trace), Answer::Race(10, t), &trace);
+    known(test.ordering(&trace, 10, t), Ordering::No, &trace);
 }
 
 /// Rows 3 and 4, each alone and both at once.
@@ -136,9 +136,10 @@ fn buffer_lengths(test: &mut Test) {
             test.ordering_with(&trace, workspace, n, 0);
         }
     }
-    assert_eq!(test.judge_with(&reads(1), WORKSPACE, 1, 1), Answer::Refused(3, 0));
-    assert_eq!(test.judge_with(&reads(1), WORKSPACE + 1, 0, 1), Answer::Refused(4, 0));
-    assert_eq!(test.judge_with(&reads(1), WORKSPACE + 1, 1, 0), Answer::Refused(4, 0));
+    let one = reads(1);
+    known(test.judge_with(&one, WORKSPACE, 1, 1), Answer::Refused(3, 0), &one);
+    known(test.judge_with(&one, WORKSPACE + 1, 0, 1), Answer::Refused(4, 0), &one);
+    known(test.judge_with(&one, WORKSPACE + 1, 1, 0), Answer::Refused(4, 0), &one);
 }
 
 /// Row 1, which comes before all others.
@@ -162,8 +163,8 @@ fn slice_lengths(test: &mut Test) {
         trace.operands.truncate(operands);
         for (workspace, orders) in [(0, 0), (WORKSPACE + OVER, OVER)] {
             let said = test.judge_with(&trace, workspace, orders, orders);
-            assert_eq!(said, Answer::Refused(1, 0));
-            assert_eq!(test.ordering_with(&trace, workspace, 0, 0), Ordering::Refused(1, 0));
+            known(said, Answer::Refused(1, 0), &trace);
+            known(test.ordering_with(&trace, workspace, 0, 0), Ordering::Refused(1, 0), &trace);
         }
     }
 }
