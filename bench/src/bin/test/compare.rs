@@ -1,6 +1,7 @@
 //! One call of each linked judge held against the slow judge: the answer, the workspace and both
 //! order buffers whole, the cells around them, the trace. Counts what was met.
 
+use crate::watch::watched;
 use racejudge_bench::ancestors::{Ancestors, Outcome};
 use racejudge_bench::extent::{Extent, LIMITS};
 use racejudge_bench::fasttrack::FastTrack;
@@ -9,6 +10,7 @@ use racejudge_bench::program::mismatch;
 use racejudge_bench::rng::Rng;
 use racejudge_bench::trace::*;
 use std::fmt::{Debug, Display};
+use std::sync::Arc;
 
 const JUDGES: [&Judge; 3] = [&PROVED, &HAND, &ALIGNED];
 
@@ -132,10 +134,10 @@ impl Test {
         let wanted = self.slow.judge(trace, workspace, first, second);
         let (first_order, second_order) = wanted.orders.clone().unwrap_or_default();
         for judge in JUDGES {
-            let copy = trace.clone();
+            let (call, copy) = (format!("{}, judge", judge.name), Arc::new(trace.clone()));
             let mut w = self.buffer(workspace);
             let (mut f, mut s) = (self.buffer(first), self.buffer(second));
-            let told = judge.judge(&copy, w.lend(), f.lend(), s.lend());
+            let told = watched(&call, &copy, || judge.judge(&copy, w.lend(), f.lend(), s.lend()));
             let differences = [
                 ("answer", answer_difference(told, wanted.said)),
                 ("trace", trace_difference(&copy, trace)),
@@ -143,7 +145,7 @@ impl Test {
                 ("first order buffer", f.difference(&first_order)),
                 ("second order buffer", s.difference(&second_order)),
             ];
-            check(judge, "judge", trace, &wanted, &differences);
+            check(&call, trace, &wanted, &differences);
         }
         match wanted.said {
             Answer::Clean => {
@@ -188,15 +190,16 @@ impl Test {
     ) -> Ordering {
         let wanted = self.slow.ordering(trace, workspace, p, q);
         for judge in JUDGES {
-            let copy = trace.clone();
+            let call = format!("{}, ordering {p} {q}", judge.name);
+            let copy = Arc::new(trace.clone());
             let mut w = self.buffer(workspace);
-            let told = judge.ordering(&copy, w.lend(), p, q);
+            let told = watched(&call, &copy, || judge.ordering(&copy, w.lend(), p, q));
             let differences = [
                 ("answer", answer_difference(told, wanted.said)),
                 ("trace", trace_difference(&copy, trace)),
                 ("workspace", w.difference(&vec![0; wanted.cleared])),
             ];
-            check(judge, &format!("ordering {p} {q}"), trace, &wanted, &differences);
+            check(&call, trace, &wanted, &differences);
         }
         match wanted.said {
             Ordering::No => self.ordered.plain[0] += 1,
@@ -288,7 +291,6 @@ pub fn known<T: Debug + PartialEq>(found: T, wanted: T, on: impl Display) {
 
 /// Ends the test at the first difference.
 fn check<T: Debug>(
-    judge: &Judge,
     call: &str,
     trace: &Trace,
     wanted: &Outcome<T>,
@@ -296,8 +298,7 @@ fn check<T: Debug>(
 ) {
     for (what, difference) in differences {
         if let Some(difference) = difference {
-            let name = judge.name;
-            mismatch(&format!("{name}, {call}: {what} {difference}\n{wanted:?}\non {trace}"));
+            mismatch(&format!("{call}: {what} {difference}\n{wanted:?}\non {trace}"));
         }
     }
 }

@@ -6,6 +6,7 @@
 mod compare;
 mod document;
 mod limits;
+mod watch;
 
 use compare::{known, Test};
 use racejudge_bench::ffi;
@@ -93,6 +94,7 @@ fn main() {
     let (seed, times) = (words.number("--seed", 1), words.number("--times", 1));
     words.end();
     print(&format!("judge: {}\n", ffi::LINKED));
+    watch::start();
     let mut test = Test::new(seed as u64);
     document::runs(&mut test);
     document::texts();
