@@ -26,7 +26,7 @@ use Rattle.line.specs.Cells.{isLeftIn}
 use Rattle.line.specs.Held.{SameBeyond, LineAt}
 use Rattle.line.proofs.Bounds.{task-small}
 use Rattle.rules.specs.declared.Step.{Step}
-use Rattle.rules.specs.declared.Step.the-variants.{Ok, Refused}
+use Rattle.rules.specs.declared.Step.the-variants.{Next}
 use Rattle.order.specs.declared.Asked.{Asked}
 use Rattle.order.specs.declared.Asked.the-variants.{Held, Broken}
 use Rattle.rules.specs.Walks.{EventSays}
@@ -94,21 +94,21 @@ module _ {tr : Trace} where
 
   -- What asking at q says.
   module _ {q : ℕ} {c exit : List ℕ} {s : Step} (says : EventSays tr q c exit s) where
-    pub ask-next : {next : Line} → s ≡ Ok next → SameBeyond c exit × LineAt tr (suc q) exit next
-    ask-next {next} e = let said : EventSays tr q c exit (Ok next) = rw e at says in said
+    pub ask-next : {next : Line} → s ≡ Next next → SameBeyond c exit × LineAt tr (suc q) exit next
+    ask-next {next} e = let said : EventSays tr q c exit (Next next) = rw e at says in said
 
     pub ask-before :
-        {p : ℕ} {line next : Line} {left : Bool} → LineAt tr q c line → tr .kind q ≢ JOIN → p < q → s ≡ Ok next → left ≡ isLeftIn c (tr .task p)
+        {p : ℕ} {line next : Line} {left : Bool} → LineAt tr q c line → tr .kind q ≢ JOIN → p < q → s ≡ Next next → left ≡ isLeftIn c (tr .task p)
         → SameBeyond c exit × LineAt tr (suc q) exit next × Tells tr p q (not left)
     ask-before at other h e l = let n = ask-next e in (n .0, n .1, rw l (tells-before at (n .1) other h))
 
     pub ask-after :
-        {p : ℕ} {next : Line} {left : Bool} → tr .kind q ≡ JOIN → p < q → s ≡ Ok next → left ≡ isLeftIn exit (tr .task p)
+        {p : ℕ} {next : Line} {left : Bool} → tr .kind q ≡ JOIN → p < q → s ≡ Next next → left ≡ isLeftIn exit (tr .task p)
         → SameBeyond c exit × LineAt tr (suc q) exit next × Tells tr p q (not left)
     ask-after k h e l = let n = ask-next e in (n .0, n .1, rw l (tells-after (n .1) k h))
 
-    pub ask-broken : {number : ℕ} → s ≡ Refused number → SameBeyond c exit × BreaksFirst tr q number
-    ask-broken {number} e = let said : EventSays tr q c exit (Refused number) = rw e at says in said
+    pub ask-broken : {number : ℕ} → s ≡ Step.Broken number → SameBeyond c exit × BreaksFirst tr q number
+    ask-broken {number} e = let said : EventSays tr q c exit (Step.Broken number) = rw e at says in said
 
   -- What was asked, by the answer.
   module _ (p : ℕ) {q : ℕ} {c exit : List ℕ} {a : Asked} (says : AskSays tr p q c exit a) where

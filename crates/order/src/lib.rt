@@ -68,8 +68,8 @@ fn ask_join(
 {
     let step = rules::advance(kinds, tasks, operands, ws, line, q);
     match step {
-        Step::Ok(next) => Asked::Held(next, !line::is_left(ws, tasks[p])),
-        Step::Refused(number) => Asked::Broken(number),
+        Step::Next(next) => Asked::Held(next, !line::is_left(ws, tasks[p])),
+        Step::Broken(number) => Asked::Broken(number),
     }
 }
 
@@ -92,8 +92,8 @@ fn ask_other(
     let left = line::is_left(ws, tasks[p]);
     let step = rules::advance(kinds, tasks, operands, ws, line, q);
     match step {
-        Step::Ok(next) => Asked::Held(next, !left),
-        Step::Refused(number) => Asked::Broken(number),
+        Step::Next(next) => Asked::Held(next, !left),
+        Step::Broken(number) => Asked::Broken(number),
     }
 }
 

@@ -23,7 +23,7 @@ use Rattle.line.proofs.Rests.{rest-refl, rest-eq, rest-trans, beyond-start}
 use Rattle.line.proofs.Moves.{running-first}
 use Rattle.line.proofs.EventLaw.{row-none, row-some, line-start, Agrees, event-law}
 use Rattle.rules.specs.declared.Step.{Step}
-use Rattle.rules.specs.declared.Step.the-variants.{Ok, Refused}
+use Rattle.rules.specs.declared.Step.the-variants.{Next}
 use Rattle.rules.specs.declared.Walked.{Walked}
 use Rattle.rules.specs.declared.Walked.the-variants.{Held, Broken}
 use Rattle.rules.specs.Walks.{Plain, LineKept, EventSays, WalkSays}
@@ -125,7 +125,7 @@ module _ {tr : Trace} {n : ℕ} {c : List ℕ} {line : Line} (at : LineAt tr n c
 
   pub event-broken :
       (next : Line) (row : ℕ) (exit : List ℕ) → rowed next row exit ≡ eventIn c line (tr .kind n) (tr .task n) (tr .operand n) → row ≢ 0
-      → EventSays tr n c exit (Refused row)
+      → EventSays tr n c exit (Step.Broken row)
   event-broken next row exit e some =
       let met = step-agrees (record { result = fails row; cells = exit }) (sym (row-some next row exit e some)) in
       let before = lineOf (at .left) (at .active) (at .used) in
@@ -136,20 +136,20 @@ module _ {tr : Trace} {n : ℕ} {c : List ℕ} {line : Line} (at : LineAt tr n c
 
   pub event-kept :
       (next : Line) (row : ℕ) (exit : List ℕ) → rowed next row exit ≡ eventIn c line (tr .kind n) (tr .task n) (tr .operand n) → row ≡ 0
-      → EventSays tr n c exit (Ok next)
+      → EventSays tr n c exit (Next next)
   event-kept next row exit e none =
       let next-line = step-agrees (goes next exit) (sym (row-none next row exit e none)) in (next-line .beyond, next-line .at)
 
 -- EVENT n, HELD TO THE RULES: what the step says, by the row that is met or 0.
 module _ (kinds tasks operands : List ℕ) {n : ℕ} {c : List ℕ} {line : Line} (at : LineAt (traceOf kinds tasks operands) n c line)
     (next : Line) (row : ℕ) (exit : List ℕ) (e : rowed next row exit ≡ eventIn c line (getD kinds n 0) (getD tasks n 0) (getD operands n 0)) where
-  pub says-refused : row ≢ 0 → EventSays (traceOf kinds tasks operands) n c exit (Refused row)
+  pub says-broken : row ≢ 0 → EventSays (traceOf kinds tasks operands) n c exit (Step.Broken row)
   unfolding traceOf
-  says-refused some = event-broken at next row exit e some
+  says-broken some = event-broken at next row exit e some
 
-  pub says-ok : row ≡ 0 → (r : Line) → r ≡ next → EventSays (traceOf kinds tasks operands) n c exit (Ok r)
+  pub says-next : row ≡ 0 → (r : Line) → r ≡ next → EventSays (traceOf kinds tasks operands) n c exit (Next r)
   unfolding traceOf
-  says-ok none r f = rw f (event-kept at next row exit e none)
+  says-next none r f = rw f (event-kept at next row exit e none)
 
 -- ---- the loop
 
@@ -170,17 +170,17 @@ module _ {tr : Trace} {to i : ℕ} {entry c : List ℕ} {line : Line} (w : Walki
       (w .beyond, subst (λ (n : ℕ). LineAt tr n c line) same (w .at))
 
   module _ {exit : List ℕ} {s : Step} (says : EventSays tr i c exit s) where
-    pub walk-line : {next : Line} → s ≡ Ok next → LineAt tr (i + 1) exit next
-    walk-line {next} e = rw add-one (let said : EventSays tr i c exit (Ok next) = rw e at says in said .1)
+    pub walk-line : {next : Line} → s ≡ Next next → LineAt tr (i + 1) exit next
+    walk-line {next} e = rw add-one (let said : EventSays tr i c exit (Next next) = rw e at says in said .1)
 
-    pub walk-turn : {next : Line} {j : ℕ} → s ≡ Ok next → LineKept tr (i + 1) to exit next j → Walking tr to entry exit next j
+    pub walk-turn : {next : Line} {j : ℕ} → s ≡ Next next → LineKept tr (i + 1) to exit next j → Walking tr to entry exit next j
     walk-turn {next} e k =
-        let said : EventSays tr i c exit (Ok next) = rw e at says in
+        let said : EventSays tr i c exit (Next next) = rw e at says in
         record { inside = k .within; beyond = rest-trans (w .beyond) (said .0); at = k .at }
 
-    pub walk-broken : {number : ℕ} → s ≡ Refused number → SameBeyond entry exit × BreaksFirst tr i number
+    pub walk-broken : {number : ℕ} → s ≡ Step.Broken number → SameBeyond entry exit × BreaksFirst tr i number
     walk-broken {number} e =
-        let said : EventSays tr i c exit (Refused number) = rw e at says in
+        let said : EventSays tr i c exit (Step.Broken number) = rw e at says in
         (rest-trans (w .beyond) (said .0), said .1)
 
 -- What a walk says, by its answer.

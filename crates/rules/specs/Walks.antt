@@ -8,7 +8,7 @@ use Rattle.trace.specs.Demands.{BreaksFirst}
 use Rattle.line.specs.declared.Line.{Line}
 use Rattle.line.specs.Held.{SameBeyond, LineAt}
 use Rattle.rules.specs.declared.Step.{Step}
-use Rattle.rules.specs.declared.Step.the-variants.{Ok, Refused}
+use Rattle.rules.specs.declared.Step.the-variants.{Next}
 use Rattle.rules.specs.declared.Walked.{Walked}
 use Rattle.rules.specs.declared.Walked.the-variants.{Held, Broken}
 
@@ -28,8 +28,8 @@ pub record LineKept (tr : Trace) (from to : ℕ) (c : List ℕ) (line : Line) (r
 
 -- What event n, held to the rules, leads to: the next line, or it is the first event that breaks a rule. No cell past the tables changes.
 abbrev pub EventSays : Trace → ℕ → List ℕ → List ℕ → Step → Type 0
-EventSays tr n entry exit (Ok next) = SameBeyond entry exit × LineAt tr (suc n) exit next
-EventSays tr n entry exit (Refused number) = SameBeyond entry exit × BreaksFirst tr n number
+EventSays tr n entry exit (Next next) = SameBeyond entry exit × LineAt tr (suc n) exit next
+EventSays tr n entry exit (Step.Broken number) = SameBeyond entry exit × BreaksFirst tr n number
 
 -- The line after the events below `to`, or the first event that breaks a rule. No cell past the tables changes.
 abbrev pub WalkSays : Trace → ℕ → ℕ → List ℕ → List ℕ → Walked → Type 0

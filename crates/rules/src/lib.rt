@@ -10,8 +10,8 @@ use line::Line;
 
 // What an event leads to: the next line, or the row that it meets.
 pub enum Step {
-    Ok(Line),
-    Refused(usize),
+    Next(Line),
+    Broken(usize),
 }
 
 // The line after the events, or the row and the position of the first that breaks a rule.
@@ -75,9 +75,9 @@ pub fn advance(
     let kind = kinds[i];
     let row = line::event(ws, line, kind, tasks[i], operands[i]);
     if row != 0 {
-        return Step::Refused(row);
+        return Step::Broken(row);
     }
-    Step::Ok(line::after(line, kind))
+    Step::Next(line::after(line, kind))
 }
 
 // The events from `from` up to `to`, held to the rules.
@@ -100,10 +100,10 @@ pub fn walk(
     while i < to {
         let step = advance(kinds, tasks, operands, ws, line, i);
         match step {
-            Step::Ok(next) => {
+            Step::Next(next) => {
                 line = next;
             }
-            Step::Refused(number) => {
+            Step::Broken(number) => {
                 return Walked::Broken(number, i);
             }
         }

@@ -1,7 +1,7 @@
 -- `rules::advance` meets its contract: the law of one event. Assumes nothing.
 use borrow.Author.Needs.{needs}
 use Rattle.line.proofs.EventLaw.{movable}
-use Rattle.rules.proofs.Walking.{says-refused, says-ok}
+use Rattle.rules.proofs.Walking.{says-broken, says-next}
 use Rattle.rules.proofs.advance.Statement.{statement}
 use Rattle.rules.proofs.advance.Tie as tie
 
@@ -16,7 +16,7 @@ advance-spec =
     (λ c. search needs)
     (λ c κs. search needs)
     (λ c. search needs)
-    (λ c. search says-refused)
+    (λ c. search says-broken)
     (λ c κs. search movable)
     (λ c. search needs)
-    (λ c. search says-ok))
+    (λ c. search says-next))
