@@ -33,7 +33,7 @@ fn deep(count: usize, locations: usize, care: usize) -> Shape {
     }
 }
 
-// Many children in a row, joined at once.
+// Shallow nesting: once 12 halted tasks stand in the line, the running task joins them all, most of which it did not fork.
 fn wide(count: usize, locations: usize, care: usize) -> Shape {
     Shape {
         count,

@@ -1,4 +1,4 @@
-// A tree of tasks that gives the longest chains of joins.
+// A tree of tasks whose joins give the judge's union-find forest its longest chains of links.
 use crate::draws::below;
 use crate::draws::seed_of;
 use crate::events::Event;
