@@ -9,8 +9,9 @@ use cells::more;
 use cells::plus;
 use slow::Sizes;
 
-// Of each run: how many events, how many cells of each order are told, the answer with its two numbers; then the events, and then the two orders.
-pub fn read_runs(cells: &mut [u16]) {
+// Of each run: how many events, how many cells of each order are told, the answer with its two numbers; then the events, and then the two orders. Answers
+// how many cells the table has, as read_table does.
+pub fn read_runs(cells: &mut [u16]) -> usize {
     read_table(
         b"
 # no events
@@ -63,7 +64,7 @@ pub fn read_runs(cells: &mut [u16]) {
 5 0 RACE 1 4: 0 fork 1, 1 write 5, 1 halt 0, 0 fork 2, 2 read 5
 ",
         cells,
-    );
+    )
 }
 
 // The answer that the table tells of the run at a cell.
@@ -95,14 +96,19 @@ pub fn cells_of(n: usize) -> usize {
 }
 
 // Where the orders of the run at a cell stand in the table.
-pub fn orders_at(cells: &[u16], at: usize) -> usize {
+fn orders_at(cells: &[u16], at: usize) -> usize {
     plus(at, plus(5, cells_of(get(cells, at))))
 }
 
 // How many cells both orders have.
-pub fn orders_count(cells: &[u16], at: usize) -> usize {
+fn orders_count(cells: &[u16], at: usize) -> usize {
     let m = get(cells, more(at));
     plus(m, m)
+}
+
+// Where the run behind the one at a cell stands.
+pub fn next_run(cells: &[u16], at: usize) -> usize {
+    plus(orders_at(cells, at), orders_count(cells, at))
 }
 
 // Whether the slow judge's two orders are those that the table tells of the run at a cell.

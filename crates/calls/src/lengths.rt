@@ -6,8 +6,11 @@ use cells::get;
 use cells::plus;
 use slow::Sizes;
 
-// Of each run the lengths of the six slices, and the row by which it is refused, or 0.
-pub fn read_runs(cells: &mut [u16]) {
+// How many cells a run has.
+pub const CELLS: usize = 7;
+
+// Of each run the lengths of the six slices, and the row by which it is refused, or 0. Answers how many cells the table has, as read_table does.
+pub fn read_runs(cells: &mut [u16]) -> usize {
     read_table(
         b"
 # kinds 2, tasks 3, operands 3, and the like
@@ -42,11 +45,11 @@ pub fn read_runs(cells: &mut [u16]) {
 4 4 4 13000 90 4: 0
 ",
         cells,
-    );
+    )
 }
 
 fn at(cells: &[u16], run: usize, i: usize) -> usize {
-    get(cells, plus((run % 65536) * 7, i))
+    get(cells, plus((run % 65536) * CELLS, i))
 }
 
 pub fn lengths(cells: &[u16], run: usize) -> Sizes {

@@ -66,8 +66,16 @@ fn take(scan: Scan, byte: u8) -> Scan {
     }
 }
 
-// Reads a table. The last cell that is made is followed by one that holds 0.
-pub fn read_table(text: &[u8], cells: &mut [u16]) {
+// How many cells a table has that was read into so many, 0 if they are too few for it.
+fn made(scan: Scan, room: usize) -> usize {
+    if room < scan.count {
+        return 0;
+    }
+    scan.count
+}
+
+// Reads a table. Answers how many cells it has, 0 if they are more than are lent.
+pub fn read_table(text: &[u8], cells: &mut [u16]) -> usize {
     let mut scan = Scan {
         count: 0,
         value: 0,
@@ -80,4 +88,5 @@ pub fn read_table(text: &[u8], cells: &mut [u16]) {
         put(cells, scan.count, scan.value);
         i += 1;
     }
+    made(close(scan), cells.len())
 }

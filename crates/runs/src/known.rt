@@ -1,13 +1,14 @@
 // The runs that document 01 tells: each trace with its answer, and with both orders where they are told. Each is also judged by the slow judge, and asked
 // about every pair of positions.
 use crate::compare::compare;
+use crate::outcome::Outcome;
+use crate::outcome::make_outcome;
 use calls::MISMATCH;
 use calls::REFUSED;
 use calls::asking;
 use calls::judging;
 use calls::known::cells_of;
-use calls::known::orders_at;
-use calls::known::orders_count;
+use calls::known::next_run;
 use calls::known::orders_told;
 use calls::known::read_runs;
 use calls::known::roomy;
@@ -16,9 +17,8 @@ use calls::make_reply;
 use calls::same_reply;
 use cells::get;
 use cells::least;
+use cells::more;
 use cells::plus;
-
-pub const COUNT: usize = 32;
 
 // Both ordering calls agree on every pair of positions below 16, those past the end included.
 fn pairs_agree(events: &[u16], n: usize, memory: &mut [usize]) -> bool {
@@ -47,17 +47,23 @@ fn run_agrees(cells: &[u16], at: usize, memory: &mut [usize]) -> bool {
     agrees(cells, at, &cells[from..to], memory)
 }
 
-fn go_through(cells: &[u16], memory: &mut [usize]) -> usize {
+// The table has so many cells: some, and none behind the last run's.
+fn go_through(cells: &[u16], count: usize, memory: &mut [usize]) -> Outcome {
     let mut at = 0;
     let mut i = 0;
-    while i < COUNT {
-        if !run_agrees(cells, at, memory) {
-            return i;
+    while at < count {
+        let next = next_run(cells, at);
+        // It never is: by this test the loop is seen to end.
+        if next <= at {
+            return make_outcome(i, false);
         }
-        at = plus(orders_at(cells, at), orders_count(cells, at));
-        i += 1;
+        if !run_agrees(cells, at, memory) {
+            return make_outcome(i, false);
+        }
+        at = next;
+        i = more(i);
     }
-    i
+    make_outcome(i, (at == count) & (0 < i))
 }
 
 // The example of row 13: "empty trace, p = 0".
@@ -67,12 +73,11 @@ fn past_the_end(memory: &mut [usize]) -> bool {
     same_reply(answer, make_reply(plus(REFUSED, 13), 0, 0))
 }
 
-// How many of the runs came out as told, one after the other.
-pub fn agreed(memory: &mut [usize]) -> usize {
+pub fn try_all(memory: &mut [usize]) -> Outcome {
     let mut cells = [0u16; 512];
-    read_runs(&mut cells);
+    let count = read_runs(&mut cells);
     if !past_the_end(memory) {
-        return 0;
+        return make_outcome(0, false);
     }
-    go_through(&cells, memory)
+    go_through(&cells, count, memory)
 }

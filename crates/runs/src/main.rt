@@ -2,11 +2,14 @@
 mod compare;
 mod known;
 mod large;
+mod outcome;
 mod random;
 mod sizes;
 
 use cells::plus;
 use libc::STDOUT_FILENO;
+use outcome::Outcome;
+use outcome::make_outcome;
 use random::count_at;
 
 fn print(text: &[u8], n: usize) {
@@ -15,13 +18,12 @@ fn print(text: &[u8], n: usize) {
     io::write_all(STDOUT_FILENO, b"\n");
 }
 
-fn told(text: &[u8], agreed: usize, count: usize) -> bool {
-    print(text, agreed);
-    if agreed == count {
-        return true;
+fn told(text: &[u8], outcome: Outcome) -> bool {
+    print(text, outcome.agreed);
+    if !outcome.all {
+        print(b"MISMATCH at number ", outcome.agreed);
     }
-    print(b"MISMATCH at number ", agreed);
-    false
+    outcome.all
 }
 
 fn print_refusal(counts: [usize; 65], from: usize, number: usize) {
@@ -65,7 +67,8 @@ fn print_ordering(counts: [usize; 65]) {
 fn try_random(memory: &mut [usize]) {
     let trials = random::try_all(memory);
     let counts = trials.counts;
-    if told(b"traces at random: ", trials.agreed, random::TRACES) {
+    let all = trials.agreed == random::TRACES;
+    if told(b"traces at random: ", make_outcome(trials.agreed, all)) {
         print_judge(counts);
         print_ordering(counts);
         io::write_all(STDOUT_FILENO, b"all answers and all cells agree\n");
@@ -73,22 +76,18 @@ fn try_random(memory: &mut [usize]) {
 }
 
 fn try_known(memory: &mut [usize]) -> bool {
-    told(
-        b"runs that document 01 tells: ",
-        known::agreed(memory),
-        known::COUNT,
-    )
+    told(b"runs that document 01 tells: ", known::try_all(memory))
 }
 
 fn try_sizes(memory: &mut [usize]) -> bool {
-    told(b"lengths of slices: ", sizes::agreed(memory), sizes::COUNT)
+    told(b"lengths of slices: ", sizes::try_all(memory))
 }
 
 fn try_large(memory: &mut [usize]) -> bool {
+    let agreed = large::agreed(memory);
     told(
         b"calls on 32768 events: ",
-        large::agreed(memory),
-        large::COUNT,
+        make_outcome(agreed, agreed == large::COUNT),
     )
 }
 

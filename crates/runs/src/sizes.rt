@@ -1,10 +1,13 @@
 // Rows 1 to 4 of document 01's table, and the largest traces: reads by task 0 in slices of many lengths.
 use crate::compare::compare;
+use crate::outcome::Outcome;
+use crate::outcome::make_outcome;
 use calls::CLEAN;
 use calls::MISMATCH;
 use calls::REFUSED;
 use calls::asking;
 use calls::judging;
+use calls::lengths::CELLS;
 use calls::lengths::lengths;
 use calls::lengths::read_runs;
 use calls::lengths::told;
@@ -12,8 +15,6 @@ use calls::make_reply;
 use calls::same_reply;
 use cells::plus;
 use slow::Sizes;
-
-pub const COUNT: usize = 24;
 
 // "It has no order buffers, so refusal 4 is absent"; rows 1 to 3 are as for the judge. The read at position 0 reaches itself, if it is there.
 fn asked(sizes: Sizes, case: usize, events: &[u16], run: usize, memory: &mut [usize]) -> bool {
@@ -35,21 +36,23 @@ fn agrees(cells: &[u16], run: usize, events: &[u16], memory: &mut [usize]) -> bo
     same_reply(answer, make_reply(case, 0, 0)) & also
 }
 
-fn go_through(cells: &[u16], events: &[u16], memory: &mut [usize]) -> usize {
+// The table has so many cells: some, and none behind the last run's.
+fn go_through(cells: &[u16], count: usize, events: &[u16], memory: &mut [usize]) -> Outcome {
+    let runs = count / CELLS;
     let mut run = 0;
-    while run < COUNT {
+    while run < runs {
         if !agrees(cells, run, events, memory) {
-            return run;
+            return make_outcome(run, false);
         }
         run += 1;
     }
-    run
+    make_outcome(run, (count % CELLS == 0) & (0 < run))
 }
 
-// How many of the runs came out as told, one after the other. Every event is a read of location 0 by task 0.
-pub fn agreed(memory: &mut [usize]) -> usize {
+// Every event is a read of location 0 by task 0.
+pub fn try_all(memory: &mut [usize]) -> Outcome {
     let mut cells = [0u16; 170];
-    read_runs(&mut cells);
+    let count = read_runs(&mut cells);
     let reads = [0u16; 3];
-    go_through(&cells, &reads, memory)
+    go_through(&cells, count, &reads, memory)
 }

@@ -7,10 +7,10 @@ use Rattle.runs.proofs.sizes.go_through.Statement.{statement}
 use Rattle.runs.proofs.sizes.go_through.Tie as tie
 
 abbrev Inv-loop : tie.InvT-loop
-Inv-loop cells events memory₀ run₀ memory run = length memory ≡ length memory₀
+Inv-loop cells count events memory₀ runs run₀ memory run = length memory ≡ length memory₀
 
 abbrev μ-loop : tie.MeasureT-loop
-μ-loop cells events memory₀ run₀ memory run = 24 - run
+μ-loop cells count events memory₀ runs run₀ memory run = runs - run
 
 pub go-through-spec : {M : Type 1} → statement M
 go-through-spec =
@@ -20,10 +20,12 @@ go-through-spec =
     μ-loop
     (λ c. search needs)
     (λ c κs. search needs)
+    (λ c κs. search needs)
     (λ c. search needs)
     (λ c. search needs)
     (λ c. search needs)
     (λ c. search needs)
     (λ c. search needs)
+    (λ c κs. search needs)
     (λ c. search needs)
     (λ c. search needs))
