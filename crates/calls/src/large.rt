@@ -46,7 +46,7 @@ pub fn asking(p: usize, case: usize) -> Call {
     }
 }
 
-fn put_one(events: &mut [u16], p: usize, task: usize, kind: usize, operand: usize) {
+pub fn put_one(events: &mut [u16], p: usize, task: usize, kind: usize, operand: usize) {
     put_event(
         events,
         p,

@@ -4,6 +4,7 @@ pub mod drawn;
 pub mod known;
 pub mod large;
 pub mod lengths;
+pub mod lines;
 mod table;
 
 use cells::plus;

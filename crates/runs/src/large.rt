@@ -31,7 +31,7 @@ fn race(events: &[u16], memory: &mut [usize]) -> bool {
 }
 
 // How many of three hold, one after the other.
-fn held(first: bool, second: bool, third: bool) -> usize {
+pub fn held(first: bool, second: bool, third: bool) -> usize {
     if !first {
         return 0;
     }

@@ -2,6 +2,7 @@
 mod compare;
 mod known;
 mod large;
+mod lines;
 mod outcome;
 mod random;
 mod sizes;
@@ -91,6 +92,14 @@ fn try_large(memory: &mut [usize]) -> bool {
     )
 }
 
+fn try_lines(memory: &mut [usize]) -> bool {
+    let agreed = lines::agreed(memory);
+    told(
+        b"lines of 1024 tasks: ",
+        make_outcome(agreed, agreed == lines::COUNT),
+    )
+}
+
 fn run(memory: &mut [usize; slow::MEMORY]) {
     if !try_known(memory) {
         return;
@@ -99,6 +108,9 @@ fn run(memory: &mut [usize; slow::MEMORY]) {
         return;
     }
     if !try_large(memory) {
+        return;
+    }
+    if !try_lines(memory) {
         return;
     }
     try_random(memory);
