@@ -1,6 +1,5 @@
 // The runs that document 01 tells: each trace with its answer, and with both orders where they are told. Each is also judged by the slow judge, and asked
 // about every pair of positions.
-use crate::compare::compare;
 use crate::outcome::Outcome;
 use crate::outcome::make_outcome;
 use calls::MISMATCH;
@@ -19,6 +18,7 @@ use cells::get;
 use cells::least;
 use cells::more;
 use cells::plus;
+use compare::compare;
 
 // Both ordering calls agree on every pair of positions below 16, those past the end included.
 fn pairs_agree(events: &[u16], n: usize, memory: &mut [usize]) -> bool {

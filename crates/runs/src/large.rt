@@ -1,5 +1,4 @@
 // Traces of 32,768 events, too many for the slow judge: what must come of them is written out here.
-use crate::compare::compare;
 use calls::CLEAN;
 use calls::Call;
 use calls::MISMATCH;
@@ -12,6 +11,7 @@ use calls::large::lay_race;
 use calls::large::put_orders;
 use calls::make_reply;
 use cells::more;
+use compare::compare;
 
 // Whether a call on these events, and reads by task 0 behind them, comes out as told.
 fn answers(events: &[u16], call: Call, memory: &mut [usize]) -> bool {

@@ -1,5 +1,4 @@
 // Traces that have all 1,024 tasks in the line at once: both judges and both ordering calls must answer as written here.
-use crate::compare::compare;
 use crate::large::held;
 use calls::CLEAN;
 use calls::Call;
@@ -18,6 +17,7 @@ use calls::make_reply;
 use calls::same_reply;
 use cells::less;
 use cells::plus;
+use compare::compare;
 
 fn answers(events: &[u16], call: Call, want: Reply, memory: &mut [usize]) -> bool {
     same_reply(compare(events, call, memory), want)

@@ -1,5 +1,4 @@
 // The evidence: the judge against a slow one that stores all ancestors of all events. What it prints is held to the file `stdout`.
-mod compare;
 mod known;
 mod large;
 mod lines;

@@ -1,5 +1,4 @@
 // Many traces at random: both judges answer each, and both ordering calls several pairs of its positions.
-use crate::compare::compare;
 use calls::MISMATCH;
 use calls::Reply;
 use calls::drawn::asking_of;
@@ -7,6 +6,7 @@ use calls::drawn::sizes_of;
 use calls::judging;
 use cells::least;
 use cells::plus;
+use compare::compare;
 use samples::draws::next;
 use samples::draws::seed_of;
 use samples::draws::stream;

@@ -1,5 +1,4 @@
 // Rows 1 to 4 of document 01's table, and the largest traces: reads by task 0 in slices of many lengths.
-use crate::compare::compare;
 use crate::outcome::Outcome;
 use crate::outcome::make_outcome;
 use calls::CLEAN;
@@ -14,6 +13,7 @@ use calls::lengths::told;
 use calls::make_reply;
 use calls::same_reply;
 use cells::plus;
+use compare::compare;
 use slow::Sizes;
 
 // "It has no order buffers, so refusal 4 is absent"; rows 1 to 3 are as for the judge. The read at position 0 reaches itself, if it is there.
