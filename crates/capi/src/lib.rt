@@ -30,7 +30,9 @@ pub extern "C" fn racejudge_judge(
     second: &mut [u16],
     values: &mut [u64; 2],
 ) -> u64
-    ensures { λ r. ⌜ judgeSeen r (now (values .exit)) (now (ws .exit)) (now (first .exit)) (now (second .exit)) ≡ judgeCall (judgeOutcome (now (kinds .entry)) (now (tasks .entry)) (now (operands .entry)) (now (ws .entry)) (now (first .entry)) (now (second .entry))) ⌝ }
+    ensures { λ r. ⌜ judgeSeen r (now (values .exit)) (now (ws .exit)) (now (first .exit)) (now (second .exit))
+        ≡ judgeCall (judgeOutcome (now (kinds .entry)) (now (tasks .entry)) (now (operands .entry))
+            (now (ws .entry)) (now (first .entry)) (now (second .entry))) ⌝ }
 {
     let answer = judge::judge(kinds, tasks, operands, ws, first, second);
     match answer {
@@ -60,7 +62,8 @@ pub extern "C" fn racejudge_ordering(
     q: usize,
     values: &mut [u64; 2],
 ) -> u64
-    ensures { λ r. ⌜ orderingSeen r (now (values .exit)) (now (ws .exit)) ≡ orderingCall (orderingOutcome (now (kinds .entry)) (now (tasks .entry)) (now (operands .entry)) (now (ws .entry)) p q) ⌝ }
+    ensures { λ r. ⌜ orderingSeen r (now (values .exit)) (now (ws .exit))
+        ≡ orderingCall (orderingOutcome (now (kinds .entry)) (now (tasks .entry)) (now (operands .entry)) (now (ws .entry)) p q) ⌝ }
 {
     let answer = judge::ordering(kinds, tasks, operands, ws, p, q);
     match answer {

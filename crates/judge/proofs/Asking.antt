@@ -13,7 +13,7 @@ use Rattle.trace.proofs.Demand1.{ordering-demand-1}
 use Rattle.trace.proofs.OrderingCall.{ordering-call-demand}
 use Rattle.forest.specs.Cells.{zeroed}
 use Rattle.forest.proofs.Cells.{zeroed-cleared}
-use Rattle.order.specs.Asks.{OrderSays}
+use Rattle.ordering.specs.Asks.{OrderingSays}
 use Rattle.judge.specs.Entry.{rowOf, orderingGives}
 use Rattle.line.proofs.Rests.{rest-zeroed}
 use Rattle.judge.proofs.Judging.{rows, sizes-fail, sizes-pass}
@@ -23,14 +23,14 @@ module _ (kinds tasks operands workspace : List ℕ) (p q : ℕ) where
   abbrev Promised : Ordering → List ℕ → Type 0
   Promised r w =
       (orderingGives r w ≡ orderingOutcome kinds tasks operands workspace p q)
-      × (OrderingDemand1 kinds workspace (orderingReply r) w × OrderingCallDemand kinds tasks operands workspace p q (orderingReply r))
+      × (OrderingDemand1 kinds tasks operands workspace (orderingReply r) w × OrderingCallDemand kinds tasks operands workspace p q (orderingReply r))
 
   promised : (r : Ordering) (w : List ℕ) → orderingGives r w ≡ orderingOutcome kinds tasks operands workspace p q → Promised r w
   unfolding orderingGives
   promised r w e = (
     e,
     (
-      subst (λ (o : OrderingOutcome). OrderingDemand1 kinds workspace (o .answer) (o .workspace)) (sym e)
+      subst (λ (o : OrderingOutcome). OrderingDemand1 kinds tasks operands workspace (o .answer) (o .workspace)) (sym e)
           (ordering-demand-1 kinds tasks operands workspace p q),
       subst (λ (o : OrderingOutcome). OrderingCallDemand kinds tasks operands workspace p q (o .answer)) (sym e)
           (ordering-call-demand kinds tasks operands workspace p q),
@@ -47,7 +47,7 @@ module _ (kinds tasks operands workspace : List ℕ) (p q : ℕ) where
 
   pub asked-order :
       (r : Ordering) (exit w : List ℕ) → 0 ≡ rowOf (rows kinds tasks operands workspace)
-      → OrderSays (traceOf kinds tasks operands) (length kinds) p q workspace exit r → w ≡ zeroed (WORKSPACE-CELLS + length kinds) exit → Promised r w
+      → OrderingSays (traceOf kinds tasks operands) (length kinds) p q workspace exit r → w ≡ zeroed (WORKSPACE-CELLS + length kinds) exit → Promised r w
   unfolding orderingOutcome orderingChecked orderingGives
   asked-order r exit w e s cleared-now =
       let w-is : w ≡ cleared (length kinds) workspace =

@@ -202,7 +202,7 @@ module _ (kinds tasks operands workspace first second : List ℕ) where
   abbrev Promised : Answer → List ℕ → List ℕ → List ℕ → Type 0
   Promised r w a₁ a₂ =
       (judgeGives r w a₁ a₂ ≡ judgeOutcome kinds tasks operands workspace first second)
-      × (JudgeDemand1 kinds workspace first second (judgeReply r) w a₁ a₂
+      × (JudgeDemand1 kinds tasks operands workspace first second (judgeReply r) w a₁ a₂
       × (JudgeDemand2 kinds tasks operands workspace first second (judgeReply r) × JudgeDemand3 kinds tasks operands (judgeReply r) first second a₁ a₂))
 
   promised : (r : Answer) (w a₁ a₂ : List ℕ) → judgeGives r w a₁ a₂ ≡ judgeOutcome kinds tasks operands workspace first second → Promised r w a₁ a₂
@@ -213,7 +213,7 @@ module _ (kinds tasks operands workspace first second : List ℕ) where
       let d₃ = judge-demand-3 kinds tasks operands workspace first second in (
         e,
         (
-          subst (λ (o : Outcome). JudgeDemand1 kinds workspace first second (o .answer) (o .workspace) (o .first) (o .second)) (sym e) d₁,
+          subst (λ (o : Outcome). JudgeDemand1 kinds tasks operands workspace first second (o .answer) (o .workspace) (o .first) (o .second)) (sym e) d₁,
           (
             subst (λ (o : Outcome). JudgeDemand2 kinds tasks operands workspace first second (o .answer)) (sym e) d₂,
             subst (λ (o : Outcome). JudgeDemand3 kinds tasks operands (o .answer) first second (o .first) (o .second)) (sym e) d₃,

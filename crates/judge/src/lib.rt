@@ -2,7 +2,7 @@
 // is defined in crate `trace`, and the contracts carry the owner's three demands.
 ghost use mathlib.Core.Path.{_≡_};
 ghost use lib.ListN.{length};
-ghost use Rattle.trace.specs.Trace.{traceOf};
+ghost use Rattle.trace.specs.Lent.{lentTrace};
 ghost use Rattle.trace.specs.Line.{passes};
 ghost use Rattle.trace.specs.Outcome.{sizes, orderRoom, judgeOutcome, orderingOutcome};
 ghost use Rattle.trace.specs.Answers.{judgeReply, orderingReply};
@@ -65,10 +65,11 @@ fn examine(
 ) -> Answer
     requires { ⌜ Sized (now kinds) (now tasks) (now operands) (now ws) (length (now kinds)) ⌝ }
     requires { ⌜ Roomy (now first) (now second) (length (now kinds)) ⌝ }
-    ensures { λ r. ⌜ Examined (traceOf (now (kinds .entry)) (now (tasks .entry)) (now (operands .entry))) (length (now (kinds .entry))) r (now (ws .entry)) (now (ws .exit)) (now (first .entry)) (now (first .exit)) (now (second .entry)) (now (second .exit)) ⌝ }
+    ensures { λ r. ⌜ Examined (lentTrace (kinds .entry) (tasks .entry) (operands .entry)) (length (now (kinds .entry))) r
+        (now (ws .entry)) (now (ws .exit)) (now (first .entry)) (now (first .exit)) (now (second .entry)) (now (second .exit)) ⌝ }
 {
     let line = Line::start(ws);
-    let found = scan::run(kinds, tasks, operands, ws, line);
+    let found = scan::first_failure(kinds, tasks, operands, ws, line);
     match found {
         Found::Clean => Answer::Clean,
         Found::Refused(number, position) => Answer::Refused(Refusal { number, position }),
@@ -88,10 +89,14 @@ pub fn judge(
     first: &mut [u16],
     second: &mut [u16],
 ) -> Answer
-    ensures outcome { λ r. ⌜ judgeGives r (now (ws .exit)) (now (first .exit)) (now (second .exit)) ≡ judgeOutcome (now (kinds .entry)) (now (tasks .entry)) (now (operands .entry)) (now (ws .entry)) (now (first .entry)) (now (second .entry)) ⌝ }
-    ensures demand1 { λ r. ⌜ JudgeDemand1 (now (kinds .entry)) (now (ws .entry)) (now (first .entry)) (now (second .entry)) (judgeReply r) (now (ws .exit)) (now (first .exit)) (now (second .exit)) ⌝ }
-    ensures demand2 { λ r. ⌜ JudgeDemand2 (now (kinds .entry)) (now (tasks .entry)) (now (operands .entry)) (now (ws .entry)) (now (first .entry)) (now (second .entry)) (judgeReply r) ⌝ }
-    ensures demand3 { λ r. ⌜ JudgeDemand3 (now (kinds .entry)) (now (tasks .entry)) (now (operands .entry)) (judgeReply r) (now (first .entry)) (now (second .entry)) (now (first .exit)) (now (second .exit)) ⌝ }
+    ensures outcome { λ r. ⌜ judgeGives r (now (ws .exit)) (now (first .exit)) (now (second .exit))
+        ≡ judgeOutcome (now (kinds .entry)) (now (tasks .entry)) (now (operands .entry)) (now (ws .entry)) (now (first .entry)) (now (second .entry)) ⌝ }
+    ensures demand1 { λ r. ⌜ JudgeDemand1 (now (kinds .entry)) (now (tasks .entry)) (now (operands .entry))
+        (now (ws .entry)) (now (first .entry)) (now (second .entry)) (judgeReply r) (now (ws .exit)) (now (first .exit)) (now (second .exit)) ⌝ }
+    ensures demand2 { λ r. ⌜ JudgeDemand2 (now (kinds .entry)) (now (tasks .entry)) (now (operands .entry))
+        (now (ws .entry)) (now (first .entry)) (now (second .entry)) (judgeReply r) ⌝ }
+    ensures demand3 { λ r. ⌜ JudgeDemand3 (now (kinds .entry)) (now (tasks .entry)) (now (operands .entry))
+        (judgeReply r) (now (first .entry)) (now (second .entry)) (now (first .exit)) (now (second .exit)) ⌝ }
 {
     let row = size_row(kinds, tasks, operands, ws);
     if row != 0 {
@@ -126,9 +131,12 @@ pub fn ordering(
     p: usize,
     q: usize,
 ) -> Ordering
-    ensures outcome { λ r. ⌜ orderingGives r (now (ws .exit)) ≡ orderingOutcome (now (kinds .entry)) (now (tasks .entry)) (now (operands .entry)) (now (ws .entry)) p q ⌝ }
-    ensures demand1 { λ r. ⌜ OrderingDemand1 (now (kinds .entry)) (now (ws .entry)) (orderingReply r) (now (ws .exit)) ⌝ }
-    ensures reach { λ r. ⌜ OrderingCallDemand (now (kinds .entry)) (now (tasks .entry)) (now (operands .entry)) (now (ws .entry)) p q (orderingReply r) ⌝ }
+    ensures outcome { λ r. ⌜ orderingGives r (now (ws .exit))
+        ≡ orderingOutcome (now (kinds .entry)) (now (tasks .entry)) (now (operands .entry)) (now (ws .entry)) p q ⌝ }
+    ensures demand1 { λ r. ⌜ OrderingDemand1 (now (kinds .entry)) (now (tasks .entry)) (now (operands .entry))
+        (now (ws .entry)) (orderingReply r) (now (ws .exit)) ⌝ }
+    ensures reach { λ r. ⌜ OrderingCallDemand (now (kinds .entry)) (now (tasks .entry)) (now (operands .entry))
+        (now (ws .entry)) p q (orderingReply r) ⌝ }
 {
     let row = size_row(kinds, tasks, operands, ws);
     if row != 0 {
@@ -137,7 +145,7 @@ pub fn ordering(
             position: 0,
         });
     }
-    let answer = order::order(kinds, tasks, operands, ws, p, q);
+    let answer = ordering::ordering(kinds, tasks, operands, ws, p, q);
     forest::clear(ws, WORKSPACE_CELLS + kinds.len());
     answer
 }

@@ -166,8 +166,8 @@ pub fn is_access(kind: u8) -> bool
     kind < FORK
 }
 
-// The functions below answer the row that is met, or 0: a plain number, which comes back in a register. A line that came back through memory, field by field, would
-// be waited for at every event.
+// The functions below answer the row that is met, or 0: a plain number, which comes back in a register. A line that came back through memory, field by
+// field, would be waited for at every event.
 
 // Row 8.
 fn location_row(location: u16) -> usize

@@ -6,13 +6,15 @@ ghost use mathlib.Core.List.{_++_};
 ghost use Prim.Native.Nat.{_+_, _≤_, _<_, suc};
 ghost use lib.ListN.{length, getD, set, take, drop};
 ghost use lib.Seq.{sets};
-ghost use Rattle.trace.specs.Trace.{traceOf, isAccess, TASKS, MAX-EVENTS, WORKSPACE-CELLS};
+ghost use Rattle.trace.specs.Trace.{isAccess, TASKS, MAX-EVENTS, WORKSPACE-CELLS};
+ghost use Rattle.trace.specs.Lent.{lentTrace};
 ghost use Rattle.trace.specs.Outcome.{schedule};
 ghost use Rattle.trace.specs.Demands.{KeepsRules};
 ghost use Rattle.trace.proofs.Sizes.{Sized, Roomy};
 ghost use Rattle.forest.specs.Forest.{Forest};
 ghost use Rattle.scan.specs.State.{RaceAt};
-ghost use Rattle.report.specs.Reports.{Reported, LIVE, MARK, Filled, liveIn, SmallTasks, liveAt, addedAt, kindsConflict, unorderedIn, FirstUnordered, PairFound, Rewound, MarksExtended, marked, Marks, markedD};
+ghost use Rattle.report.specs.Reports.{Reported, LIVE, MARK, Filled, liveIn, SmallTasks, liveAt, addedAt, kindsConflict};
+ghost use Rattle.report.specs.Reports.{unorderedIn, FirstUnordered, PairFound, Rewound, MarksExtended, marked, Marks, markedD};
 use line::Line;
 
 // For each task: 1 where its group is not left of the running task.
@@ -65,7 +67,7 @@ fn is_partner(kinds: &[u8], tasks: &[u16], operands: &[u16], ws: &[u16], s: usiz
     requires { ⌜ (s < t) × (t < length (now kinds)) ⌝ }
     requires { ⌜ isAccess (getD (now kinds) t 0) ≡ true ⌝ }
     requires { ⌜ SmallTasks (now tasks) t ⌝ }
-    ensures { λ r. ⌜ r ≡ unorderedIn (traceOf (now (kinds .entry)) (now (tasks .entry)) (now (operands .entry))) (now (ws .entry)) t s ⌝ }
+    ensures { λ r. ⌜ r ≡ unorderedIn (lentTrace (kinds .entry) (tasks .entry) (operands .entry)) (now (ws .entry)) t s ⌝ }
 {
     if operands[s] != operands[t] {
         return false;
@@ -82,7 +84,7 @@ fn partner(kinds: &[u8], tasks: &[u16], operands: &[u16], ws: &[u16], t: usize) 
     requires { ⌜ t < length (now kinds) ⌝ }
     requires { ⌜ isAccess (getD (now kinds) t 0) ≡ true ⌝ }
     requires { ⌜ SmallTasks (now tasks) t ⌝ }
-    ensures { λ r. ⌜ FirstUnordered (traceOf (now (kinds .entry)) (now (tasks .entry)) (now (operands .entry))) (now (ws .entry)) t r ⌝ }
+    ensures { λ r. ⌜ FirstUnordered (lentTrace (kinds .entry) (tasks .entry) (operands .entry)) (now (ws .entry)) t r ⌝ }
 {
     let mut s = 0;
     while s < t {
@@ -125,8 +127,9 @@ fn mark_more(tasks: &[u16], ws: &mut [u16], s: usize)
 // The partner of t. The events before t that reach it are marked.
 fn find_pair(kinds: &[u8], tasks: &[u16], operands: &[u16], ws: &mut [u16], t: usize) -> usize
     requires { ⌜ Sized (now kinds) (now tasks) (now operands) (now ws) (length (now kinds)) ⌝ }
-    requires { ⌜ RaceAt (traceOf (now kinds) (now tasks) (now operands)) (length (now kinds)) t (now ws) ⌝ }
-    ensures { λ s. ⌜ PairFound (traceOf (now (kinds .entry)) (now (tasks .entry)) (now (operands .entry))) (length (now (kinds .entry))) (now (ws .entry)) (now (ws .exit)) s t ⌝ }
+    requires { ⌜ RaceAt (lentTrace kinds tasks operands) (length (now kinds)) t (now ws) ⌝ }
+    ensures { λ s. ⌜ PairFound (lentTrace (kinds .entry) (tasks .entry) (operands .entry)) (length (now (kinds .entry)))
+        (now (ws .entry)) (now (ws .exit)) s t ⌝ }
 {
     survey(ws);
     let s = partner(kinds, tasks, operands, ws, t);
@@ -138,8 +141,8 @@ fn find_pair(kinds: &[u8], tasks: &[u16], operands: &[u16], ws: &mut [u16], t: u
 fn rewind(kinds: &[u8], tasks: &[u16], operands: &[u16], ws: &mut [u16], s: usize)
     requires { ⌜ Sized (now kinds) (now tasks) (now operands) (now ws) (length (now kinds)) ⌝ }
     requires { ⌜ s ≤ length (now kinds) ⌝ }
-    requires { ⌜ KeepsRules (traceOf (now kinds) (now tasks) (now operands)) s ⌝ }
-    ensures { λ _. ⌜ Rewound (traceOf (now (kinds .entry)) (now (tasks .entry)) (now (operands .entry))) s (now (ws .entry)) (now (ws .exit)) ⌝ }
+    requires { ⌜ KeepsRules (lentTrace kinds tasks operands) s ⌝ }
+    ensures { λ _. ⌜ Rewound (lentTrace (kinds .entry) (tasks .entry) (operands .entry)) s (now (ws .entry)) (now (ws .exit)) ⌝ }
 {
     let line = Line::start(ws);
     rules::walk(kinds, tasks, operands, ws, line, 0, s);
@@ -149,8 +152,9 @@ fn rewind(kinds: &[u8], tasks: &[u16], operands: &[u16], ws: &mut [u16], s: usiz
 fn extend_marks(kinds: &[u8], tasks: &[u16], operands: &[u16], ws: &mut [u16], s: usize)
     requires { ⌜ Sized (now kinds) (now tasks) (now operands) (now ws) (length (now kinds)) ⌝ }
     requires { ⌜ (s < length (now kinds)) × (isAccess (getD (now kinds) s 0) ≡ true) ⌝ }
-    requires { ⌜ KeepsRules (traceOf (now kinds) (now tasks) (now operands)) (suc s) ⌝ }
-    ensures { λ _. ⌜ MarksExtended (traceOf (now (kinds .entry)) (now (tasks .entry)) (now (operands .entry))) (length (now (kinds .entry))) (now (ws .entry)) (now (ws .exit)) s ⌝ }
+    requires { ⌜ KeepsRules (lentTrace kinds tasks operands) (suc s) ⌝ }
+    ensures { λ _. ⌜ MarksExtended (lentTrace (kinds .entry) (tasks .entry) (operands .entry)) (length (now (kinds .entry)))
+        (now (ws .entry)) (now (ws .exit)) s ⌝ }
 {
     rewind(kinds, tasks, operands, ws, s);
     survey(ws);
@@ -229,8 +233,9 @@ pub fn report(
 ) -> usize
     requires { ⌜ Sized (now kinds) (now tasks) (now operands) (now ws) (length (now kinds)) ⌝ }
     requires { ⌜ Roomy (now first) (now second) (length (now kinds)) ⌝ }
-    requires { ⌜ RaceAt (traceOf (now kinds) (now tasks) (now operands)) (length (now kinds)) t (now ws) ⌝ }
-    ensures { λ s. ⌜ Reported (traceOf (now (kinds .entry)) (now (tasks .entry)) (now (operands .entry))) (length (now (kinds .entry))) (now (ws .entry)) (now (ws .exit)) (now (first .entry)) (now (first .exit)) (now (second .entry)) (now (second .exit)) s t ⌝ }
+    requires { ⌜ RaceAt (lentTrace kinds tasks operands) (length (now kinds)) t (now ws) ⌝ }
+    ensures { λ s. ⌜ Reported (lentTrace (kinds .entry) (tasks .entry) (operands .entry)) (length (now (kinds .entry)))
+        (now (ws .entry)) (now (ws .exit)) (now (first .entry)) (now (first .exit)) (now (second .entry)) (now (second .exit)) s t ⌝ }
 {
     let s = find_pair(kinds, tasks, operands, ws, t);
     extend_marks(kinds, tasks, operands, ws, s);

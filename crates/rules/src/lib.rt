@@ -2,7 +2,7 @@
 ghost use mathlib.Core.Path.{_≡_};
 ghost use Prim.Native.Nat.{_+_, _≤_, _<_};
 ghost use lib.ListN.{length};
-ghost use Rattle.trace.specs.Trace.{traceOf};
+ghost use Rattle.trace.specs.Lent.{lentTrace};
 ghost use Rattle.trace.proofs.Sizes.{Sized};
 ghost use Rattle.line.specs.Held.{LineAt};
 ghost use Rattle.rules.specs.Walks.{Plain, LineKept, EventSays, WalkSays};
@@ -24,7 +24,7 @@ pub enum Walked {
 fn plain(kinds: &[u8], tasks: &[u16], operands: &[u16], x: u16, from: usize, to: usize) -> usize
     requires { ⌜ (length (now tasks) ≡ length (now kinds)) × (length (now operands) ≡ length (now kinds)) ⌝ }
     requires { ⌜ (from ≤ to) × (to ≤ length (now kinds)) ⌝ }
-    ensures { λ r. ⌜ Plain (traceOf (now (kinds .entry)) (now (tasks .entry)) (now (operands .entry))) x from to r ⌝ }
+    ensures { λ r. ⌜ Plain (lentTrace (kinds .entry) (tasks .entry) (operands .entry)) x from to r ⌝ }
 {
     let mut i = from;
     while i < to {
@@ -49,8 +49,8 @@ fn skip(
 ) -> usize
     requires { ⌜ (length (now tasks) ≡ length (now kinds)) × (length (now operands) ≡ length (now kinds)) ⌝ }
     requires { ⌜ (from ≤ to) × (to ≤ length (now kinds)) ⌝ }
-    requires { ⌜ LineAt (traceOf (now kinds) (now tasks) (now operands)) from (now ws) line ⌝ }
-    ensures { λ r. ⌜ LineKept (traceOf (now (kinds .entry)) (now (tasks .entry)) (now (operands .entry))) from to (now (ws .entry)) line r ⌝ }
+    requires { ⌜ LineAt (lentTrace kinds tasks operands) from (now ws) line ⌝ }
+    ensures { λ r. ⌜ LineKept (lentTrace (kinds .entry) (tasks .entry) (operands .entry)) from to (now (ws .entry)) line r ⌝ }
 {
     if line.active == 0 {
         return from;
@@ -69,8 +69,8 @@ pub fn advance(
 ) -> Step
     requires { ⌜ (length (now tasks) ≡ length (now kinds)) × (length (now operands) ≡ length (now kinds)) ⌝ }
     requires { ⌜ i < length (now kinds) ⌝ }
-    requires { ⌜ LineAt (traceOf (now kinds) (now tasks) (now operands)) i (now ws) line ⌝ }
-    ensures { λ r. ⌜ EventSays (traceOf (now (kinds .entry)) (now (tasks .entry)) (now (operands .entry))) i (now (ws .entry)) (now (ws .exit)) r ⌝ }
+    requires { ⌜ LineAt (lentTrace kinds tasks operands) i (now ws) line ⌝ }
+    ensures { λ r. ⌜ EventSays (lentTrace (kinds .entry) (tasks .entry) (operands .entry)) i (now (ws .entry)) (now (ws .exit)) r ⌝ }
 {
     let kind = kinds[i];
     let row = line::event(ws, line, kind, tasks[i], operands[i]);
@@ -92,8 +92,8 @@ pub fn walk(
 ) -> Walked
     requires { ⌜ Sized (now kinds) (now tasks) (now operands) (now ws) (length (now kinds)) ⌝ }
     requires { ⌜ (from ≤ to) × (to ≤ length (now kinds)) ⌝ }
-    requires { ⌜ LineAt (traceOf (now kinds) (now tasks) (now operands)) from (now ws) start ⌝ }
-    ensures { λ r. ⌜ WalkSays (traceOf (now (kinds .entry)) (now (tasks .entry)) (now (operands .entry))) from to (now (ws .entry)) (now (ws .exit)) r ⌝ }
+    requires { ⌜ LineAt (lentTrace kinds tasks operands) from (now ws) start ⌝ }
+    ensures { λ r. ⌜ WalkSays (lentTrace (kinds .entry) (tasks .entry) (operands .entry)) from to (now (ws .entry)) (now (ws .exit)) r ⌝ }
 {
     let mut line = start;
     let mut i = skip(kinds, tasks, operands, ws, line, from, to);

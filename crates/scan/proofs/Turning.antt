@@ -104,7 +104,7 @@ module _ {tr : Trace} {n i : ℕ} {c : List ℕ} {line : Line} (stopped : Stoppe
           stops-running (j .at .active) (stopped .stops) x paused e is
           (running ∙ running-is (subst (λ (a : List ℕ). LineCells c line (j .at .left) a (j .at .used) (j .at .group)) e (j .at .cells))) location
 
--- ---- the answers of `take_accesses`, `turn` and `run`, over the lent lists
+-- ---- the answers of `take_accesses`, `turn` and `first_failure`, over the lent lists
 
 module _ {tr : Trace} {n from : ℕ} {c : List ℕ} {line : Line} (j : JudgeAt tr n from c line) where
   -- the active tasks, by how many there are
@@ -190,7 +190,7 @@ module _ (kinds tasks operands : List ℕ) where
           (turn-next stopped inside next (sym (ap (λ (s : Stepped). s .result) e))
           (λ yes. true≢false (sym yes ∙ (sym told ∙ h))))
 
-  -- What holds at i in the loop of `run`, which began with the cells `entry`.
+  -- What holds at i in the loop of `first_failure`, which began with the cells `entry`.
   pub record RunLoop (entry c : List ℕ) (line : Line) (i : ℕ) : Type 0 where
     pub within : i ≤ n
     pub sized : Sized kinds tasks operands c n

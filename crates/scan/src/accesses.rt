@@ -2,7 +2,7 @@
 // two groups one, so the top of x is found once, before the loop, and is what the locations then name.
 ghost use Prim.Native.Nat.{_≤_, _<_};
 ghost use lib.ListN.{length};
-ghost use Rattle.trace.specs.Trace.{traceOf};
+ghost use Rattle.trace.specs.Lent.{lentTrace};
 ghost use Rattle.trace.proofs.Sizes.{Sized};
 ghost use Rattle.scan.specs.State.{SomeRunning, Passing, Skipped};
 use line::Line;
@@ -19,8 +19,9 @@ fn passes(
 ) -> bool
     requires { ⌜ Sized (now kinds) (now tasks) (now operands) (now ws) (length (now kinds)) ⌝ }
     requires { ⌜ i < length (now kinds) ⌝ }
-    requires { ⌜ SomeRunning (traceOf (now kinds) (now tasks) (now operands)) (length (now kinds)) i (now ws) x top ⌝ }
-    ensures { λ r. ⌜ Passing (traceOf (now (kinds .entry)) (now (tasks .entry)) (now (operands .entry))) (length (now (kinds .entry))) i (now (ws .entry)) (now (ws .exit)) x top r ⌝ }
+    requires { ⌜ SomeRunning (lentTrace kinds tasks operands) (length (now kinds)) i (now ws) x top ⌝ }
+    ensures { λ r. ⌜ Passing (lentTrace (kinds .entry) (tasks .entry) (operands .entry)) (length (now (kinds .entry)))
+        i (now (ws .entry)) (now (ws .exit)) x top r ⌝ }
 {
     let kind = kinds[i];
     if !line::is_access(kind) {
@@ -48,8 +49,9 @@ pub fn skip(
 ) -> usize
     requires { ⌜ Sized (now kinds) (now tasks) (now operands) (now ws) (length (now kinds)) ⌝ }
     requires { ⌜ from ≤ length (now kinds) ⌝ }
-    requires { ⌜ SomeRunning (traceOf (now kinds) (now tasks) (now operands)) (length (now kinds)) from (now ws) x top ⌝ }
-    ensures { λ r. ⌜ Skipped (traceOf (now (kinds .entry)) (now (tasks .entry)) (now (operands .entry))) (length (now (kinds .entry))) from (now (ws .entry)) (now (ws .exit)) x top r ⌝ }
+    requires { ⌜ SomeRunning (lentTrace kinds tasks operands) (length (now kinds)) from (now ws) x top ⌝ }
+    ensures { λ r. ⌜ Skipped (lentTrace (kinds .entry) (tasks .entry) (operands .entry)) (length (now (kinds .entry)))
+        from (now (ws .entry)) (now (ws .exit)) x top r ⌝ }
 {
     let mut i = from;
     while i < kinds.len() {

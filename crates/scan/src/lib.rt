@@ -1,7 +1,7 @@
 // The main loop of the judge: the events in position order, each held to the rules and then to the race test.
 ghost use Prim.Native.Nat.{_≤_, _<_};
 ghost use lib.ListN.{length};
-ghost use Rattle.trace.specs.Trace.{traceOf};
+ghost use Rattle.trace.specs.Lent.{lentTrace};
 ghost use Rattle.trace.proofs.Sizes.{Sized};
 ghost use Rattle.scan.specs.State.{JudgeAt, StoppedAt, SkippedTo};
 ghost use Rattle.scan.specs.Turns.{TurnSays, FoundSays};
@@ -34,8 +34,9 @@ fn take_accesses(
 ) -> usize
     requires { ⌜ Sized (now kinds) (now tasks) (now operands) (now ws) (length (now kinds)) ⌝ }
     requires { ⌜ from ≤ length (now kinds) ⌝ }
-    requires { ⌜ JudgeAt (traceOf (now kinds) (now tasks) (now operands)) (length (now kinds)) from (now ws) line ⌝ }
-    ensures { λ r. ⌜ SkippedTo (traceOf (now (kinds .entry)) (now (tasks .entry)) (now (operands .entry))) (length (now (kinds .entry))) from (now (ws .entry)) (now (ws .exit)) line r ⌝ }
+    requires { ⌜ JudgeAt (lentTrace kinds tasks operands) (length (now kinds)) from (now ws) line ⌝ }
+    ensures { λ r. ⌜ SkippedTo (lentTrace (kinds .entry) (tasks .entry) (operands .entry)) (length (now (kinds .entry)))
+        from (now (ws .entry)) (now (ws .exit)) line r ⌝ }
 {
     if line.active == 0 {
         return from;
@@ -56,8 +57,9 @@ fn turn(
 ) -> Taken
     requires { ⌜ Sized (now kinds) (now tasks) (now operands) (now ws) (length (now kinds)) ⌝ }
     requires { ⌜ i < length (now kinds) ⌝ }
-    requires { ⌜ StoppedAt (traceOf (now kinds) (now tasks) (now operands)) (length (now kinds)) i (now ws) line ⌝ }
-    ensures { λ r. ⌜ TurnSays (traceOf (now (kinds .entry)) (now (tasks .entry)) (now (operands .entry))) (length (now (kinds .entry))) i (now (ws .entry)) (now (ws .exit)) r ⌝ }
+    requires { ⌜ StoppedAt (lentTrace kinds tasks operands) (length (now kinds)) i (now ws) line ⌝ }
+    ensures { λ r. ⌜ TurnSays (lentTrace (kinds .entry) (tasks .entry) (operands .entry)) (length (now (kinds .entry)))
+        i (now (ws .entry)) (now (ws .exit)) r ⌝ }
 {
     let kind = kinds[i];
     let row = line::event(ws, line, kind, tasks[i], operands[i]);
@@ -71,10 +73,11 @@ fn turn(
 }
 
 // All events, from the starting line on.
-pub fn run(kinds: &[u8], tasks: &[u16], operands: &[u16], ws: &mut [u16], start: Line) -> Found
+pub fn first_failure(kinds: &[u8], tasks: &[u16], operands: &[u16], ws: &mut [u16], start: Line) -> Found
     requires { ⌜ Sized (now kinds) (now tasks) (now operands) (now ws) (length (now kinds)) ⌝ }
-    requires { ⌜ JudgeAt (traceOf (now kinds) (now tasks) (now operands)) (length (now kinds)) 0 (now ws) start ⌝ }
-    ensures { λ r. ⌜ FoundSays (traceOf (now (kinds .entry)) (now (tasks .entry)) (now (operands .entry))) (length (now (kinds .entry))) (now (ws .entry)) (now (ws .exit)) r ⌝ }
+    requires { ⌜ JudgeAt (lentTrace kinds tasks operands) (length (now kinds)) 0 (now ws) start ⌝ }
+    ensures { λ r. ⌜ FoundSays (lentTrace (kinds .entry) (tasks .entry) (operands .entry)) (length (now (kinds .entry)))
+        (now (ws .entry)) (now (ws .exit)) r ⌝ }
 {
     let mut line = start;
     let mut i = 0;

@@ -14,10 +14,11 @@ use Rattle.trace.specs.Outcome.{Reply, says, refused, Verdict, clean, ra
 use Rattle.trace.specs.Demands.{graphOf, SizeRefusal, FirstCellsZero, JudgeDemand1, OrderingDemand1}
 use Rattle.trace.proofs.Tests.{either}
 use Rattle.trace.proofs.Lists.{length-zeros-drop, getD-zeros-drop-below, getD-zeros-drop-beyond}
+use Rattle.trace.proofs.Lines.{passes-not-fails}
 use Rattle.trace.proofs.Sizes.{Sized, Roomy, sized, sized-first, roomy, sizes-row, order-room-row, refused-not-says}
-use Rattle.trace.proofs.Demand2.{demand-2}
+use Rattle.trace.proofs.Demand2.{demand-2, judgement-rows}
 use Rattle.trace.proofs.Demand3.{race-before, race-length}
-use Rattle.trace.proofs.OrderingCall.{ordering-demand}
+use Rattle.trace.proofs.OrderingCall.{ordering-demand, ordering-rows}
 
 -- ---- refusals 1 to 4
 
@@ -71,18 +72,19 @@ module _ (kinds tasks operands workspace first second : List ℕ) where
   out = judgeOutcome kinds tasks operands workspace first second
 
   abbrev Said : Outcome → Type 0
-  Said o = JudgeDemand1 kinds workspace first second (o .answer) (o .workspace) (o .first) (o .second)
+  Said o = JudgeDemand1 kinds tasks operands workspace first second (o .answer) (o .workspace) (o .first) (o .second)
 
-  judge-checked : (c : Checked ℕ)
+  judge-checked : (c : Checked ℕ) → orderRoom first second (sizes kinds tasks operands workspace) ≡ c
       → ((number : ℕ) → c ≡ fails number → (1 ≤ number) × (number ≤ 4))
       → ((n : ℕ) → c ≡ passes n → Sized kinds tasks operands workspace n × Roomy first second n)
       → Said (judgeChecked kinds tasks operands workspace first second c)
   unfolding judgeChecked
-  judge-checked (fails m) row size =
+  judge-checked (fails m) checks row size =
       let between = row m refl in
       record {
         race-positions = λ s t e. absurd (refused-not-says refl e);
         refusals = λ number position e. inl (size-refusal 4 m number position between e);
+        size-row = λ number e. let same : m ≡ number = cc (checks, e) in cc;
         orders-kept = λ h. (refl, refl);
         length-workspace = refl;
         length-first = refl;
@@ -90,7 +92,7 @@ module _ (kinds tasks operands workspace first second : List ℕ) where
         workspace-kept = λ number position e h. refl;
         workspace-cleared = λ h. absurd (omega (arith, between, h m 0 refl));
       }
-  judge-checked (passes n) row size =
+  judge-checked (passes n) checks row size =
       let tr : Trace = traceOf kinds tasks operands in
       let reply : Reply Verdict = judgement haltOperand tr n in
       let whole : length kinds ≡ n = size n refl .0 .of-kinds in
@@ -104,21 +106,22 @@ module _ (kinds tasks operands workspace first second : List ℕ) where
       record {
         race-positions = λ s t e. rw whole (race-before tr n s t e);
         refusals = λ number position e.
-            let rows = said .rows number position e in
+            let rows = judgement-rows tr n number position e in
             inr (rows .0, rows .1, rw whole (said .refused-iff number position .0 e .inside));
+        size-row = λ number e. absurd (passes-not-fails checks e);
         orders-kept = orders-unchanged tr (graphOf tr n) reply first second;
         length-workspace = cleared-zero n workspace room .one-length;
         length-first = lengths .0;
         length-second = lengths .1;
-        workspace-kept = λ number position e h. absurd (omega (arith, said .rows number position e .0));
+        workspace-kept = λ number position e h. absurd (omega (arith, judgement-rows tr n number position e .0));
         workspace-cleared = λ h. rw whole (cleared-zero n workspace room);
       }
 
   -- DEMAND 1 of the judge's outcome, for everything that can be lent.
-  pub judge-demand-1 : JudgeDemand1 kinds workspace first second (out .answer) (out .workspace) (out .first) (out .second)
+  pub judge-demand-1 : JudgeDemand1 kinds tasks operands workspace first second (out .answer) (out .workspace) (out .first) (out .second)
   unfolding judgeOutcome
   judge-demand-1 =
-      judge-checked (orderRoom first second (sizes kinds tasks operands workspace))
+      judge-checked (orderRoom first second (sizes kinds tasks operands workspace)) refl
       (order-room-row kinds tasks operands workspace first second)
       (λ n e. (sized-first kinds tasks operands workspace first second n e, roomy kinds tasks operands workspace first second n e))
 
@@ -129,39 +132,42 @@ module _ (kinds tasks operands workspace : List ℕ) (p q : ℕ) where
   ordering-out = orderingOutcome kinds tasks operands workspace p q
 
   abbrev OrderingSaid : OrderingOutcome → Type 0
-  OrderingSaid o = OrderingDemand1 kinds workspace (o .answer) (o .workspace)
+  OrderingSaid o = OrderingDemand1 kinds tasks operands workspace (o .answer) (o .workspace)
 
-  ordering-checked : (c : Checked ℕ)
+  ordering-checked : (c : Checked ℕ) → sizes kinds tasks operands workspace ≡ c
       → ((number : ℕ) → c ≡ fails number → (1 ≤ number) × (number ≤ 3))
       → ((n : ℕ) → c ≡ passes n → Sized kinds tasks operands workspace n)
       → OrderingSaid (orderingChecked kinds tasks operands workspace p q c)
   unfolding orderingChecked
-  ordering-checked (fails m) row size =
+  ordering-checked (fails m) checks row size =
       let between = row m refl in
       record {
         refusals = λ number position e. inl (size-refusal 3 m number position between e);
+        size-row = λ number e. let same : m ≡ number = cc (checks, e) in cc;
         length-workspace = refl;
         workspace-kept = λ number position e h. refl;
         workspace-cleared = λ h. absurd (omega (arith, between, h m 0 refl));
       }
-  ordering-checked (passes n) row size =
+  ordering-checked (passes n) checks row size =
       let whole : length kinds ≡ n = size n refl .of-kinds in
       let room = size n refl .room in
-      let said = ordering-demand (traceOf kinds tasks operands) n p q in
+      let tr : Trace = traceOf kinds tasks operands in
+      let said = ordering-demand tr n p q in
       record {
         refusals = λ number position e.
-            either (said .rows number position e)
+            either (ordering-rows tr n p q number position e)
             (λ rows. inr (inl (rows .0, rows .1, rw whole (said .refused-iff number position (rows .1) .0 e .0))))
             (λ last. inr (inr last));
+        size-row = λ number e. absurd (passes-not-fails checks e);
         length-workspace = cleared-zero n workspace room .one-length;
         workspace-kept = λ number position e h.
-            absurd (either (said .rows number position e) (λ rows. omega (arith, rows .0)) (λ last. omega (arith, last .0)));
+            absurd (either (ordering-rows tr n p q number position e) (λ rows. omega (arith, rows .0)) (λ last. omega (arith, last .0)));
         workspace-cleared = λ h. rw whole (cleared-zero n workspace room);
       }
 
   -- DEMAND 1 of the ordering call's outcome, for everything that can be lent.
-  pub ordering-demand-1 : OrderingDemand1 kinds workspace (ordering-out .answer) (ordering-out .workspace)
+  pub ordering-demand-1 : OrderingDemand1 kinds tasks operands workspace (ordering-out .answer) (ordering-out .workspace)
   unfolding orderingOutcome
   ordering-demand-1 =
-      ordering-checked (sizes kinds tasks operands workspace) (sizes-row kinds tasks operands workspace)
+      ordering-checked (sizes kinds tasks operands workspace) refl (sizes-row kinds tasks operands workspace)
       (λ n e. sized kinds tasks operands workspace n e)

@@ -1,7 +1,8 @@
 -- DEMAND 2. "Past the size checks (rows 1 to 4), a trace is called clean exactly when it keeps the line rules and every two conflicting accesses are
 -- joined by a path in its task graph. Otherwise the first event that breaks a rule or races with an earlier one decides the answer. A race names the
 -- first access that has a conflicting, unordered access before it, and the earliest such partner." `demand-2` is the
--- theorem for a trace, and the last declaration says it of the judge's outcome, for everything that can be lent. Assumes nothing.
+-- theorem for a trace, and the last declaration says it of the judge's outcome, for everything that can be lent. Beside it stand `exactly-one`, that one
+-- of the three cases holds of every trace, and `judgement-rows`, by which rows an event is refused. Assumes nothing.
 use Prim.Native.Nat.{ℕ, zero, suc, _<_, _≤_}
 use mathlib.Core.Path.{_≡_, refl, sym, subst, _∙_}
 use mathlib.Core.Bool.{false}
@@ -15,11 +16,20 @@ use Rattle.trace.specs.Graph.{Reach, here}
 use Rattle.trace.specs.Race.{Conflict, Race}
 use Rattle.trace.specs.Search.{leastBelow, reach?, race?}
 use Rattle.trace.specs.Outcome.{Reply, says, refused, Verdict, clean, race, orElse, raceWith, partner, failureAt, firstFailure, atEnd, orAtEnd, judgement, sizes, orderRoom, judgeChecked, judgeOutcome}
-use Rattle.trace.specs.Demands.{KeepsRules, NoRaceBefore, graphOf, IsClean, IsRefused, IsRace, Demand2, ExactlyOne, JudgeDemand2}
+use Rattle.trace.specs.Demands.{KeepsRules, NoRaceBefore, graphOf, IsClean, IsRefused, IsRace, Demand2, JudgeDemand2}
 use Rattle.trace.proofs.Tests.{by-test, either, lt-or-le, same-or-not, last-or-below, tests-fails, LeastIs, least-is}
 use Rattle.trace.proofs.Lines.{passes-not-fails, step-row, line-more, graph-all, kept-not-broken, broken-once, one-row}
 use Rattle.trace.proofs.Conflicts.{conflict-sym}
 use Rattle.trace.proofs.Searches.{test-reach-graph, test-race-graph}
+
+-- Exactly one of the three holds of every trace, with one number and position, or one pair.
+pub record ExactlyOne (tr : Trace) (n : ℕ) : Type 0 where
+  pub one-holds : IsClean tr n ⊎ ((number : ℕ) × (p : ℕ) × IsRefused tr n number p) ⊎ ((s : ℕ) × (t : ℕ) × IsRace tr n s t)
+  pub clean-or-refused : (number p : ℕ) → IsClean tr n → IsRefused tr n number p → ⊥
+  pub clean-or-race : (s t : ℕ) → IsClean tr n → IsRace tr n s t → ⊥
+  pub refused-or-race : (number p s t : ℕ) → IsRefused tr n number p → IsRace tr n s t → ⊥
+  pub one-refusal : (number p number′ p′ : ℕ) → IsRefused tr n number p → IsRefused tr n number′ p′ → (number ≡ number′) × (p ≡ p′)
+  pub one-race : (s t s′ t′ : ℕ) → IsRace tr n s t → IsRace tr n s′ t′ → (s ≡ s′) × (t ≡ t′)
 
 module _ (tr : Trace) (n : ℕ) where
   abbrev graph : ℕ
@@ -195,10 +205,12 @@ module _ (tr : Trace) (n : ℕ) where
             (λ e. let m = means-is (says clean) e in means-clean (m .0) (m .1), λ c. answer-clean c (judgement haltOperand tr n) judgement-means);
         refused-iff = λ number p. (means-is (refused number p), λ b. answer-refused number p b (judgement haltOperand tr n) judgement-means);
         race-iff = λ s t. (means-is (says (race s t)), λ r. answer-race s t r (judgement haltOperand tr n) judgement-means);
-        rows = λ number p e.
-            let b = means-is (refused number p) e .breaks-first in step-row haltOperand tr p number (b .line) (b .broken);
-        exactly-one = exactly-one;
       }
+
+  -- An event is refused by one of the rows 5 to 12.
+  pub judgement-rows : (number p : ℕ) → judgement haltOperand tr n ≡ refused number p → (5 ≤ number) × (number ≤ 12)
+  judgement-rows number p e =
+      let b = means-is (refused number p) e .breaks-first in step-row haltOperand tr p number (b .line) (b .broken)
 
 module _ (kinds tasks operands workspace first second : List ℕ) where
   demand-2-checked :

@@ -3,20 +3,23 @@
 -- said race s t, the first t + 1 cells of the two order buffers hold two orders of the events up to t, t included. Each keeps all arcs between those
 -- events. The two are equal at every place but two, side by side, where the first has s, t and the second t, s."
 -- The last declaration says it of the judge's outcome, for everything that can be lent. Assumes nothing.
-use Prim.Native.Nat.{ℕ, suc, _<_}
+use Prim.Native.Nat.{ℕ, suc, _<_, _≤_}
+use native.Mathlib.Omega.{arith}
 use mathlib.Core.Path.{_≡_, refl, sym, subst}
-use mathlib.Core.Bool.{false}
+use mathlib.Core.Bool.{Bool, true, false}
 use mathlib.Core.List.{List, _++_}
-use mathlib.Core.Logic.{_⊎_, inl, inr}
+use mathlib.Core.Logic.{_⊎_, inl, inr, _↔_, _≢_}
 use lib.ListN.{length, take, drop}
 use lib.Seq.{take-at, drop-at}
 use Rattle.trace.specs.Trace.{Trace, traceOf}
 use Rattle.trace.specs.Line.{Checked, passes, fails, haltOperand}
 use Rattle.trace.specs.Race.{Race, InD}
-use Rattle.trace.specs.Orders.{Order, KeepsArcs}
-use Rattle.trace.specs.Outcome.{says, clean, race, judgement, inD?, schedule, sizes, orderRoom, Outcome, firstOrder, secondOrder, judgeChecked, judgeOutcome}
-use Rattle.trace.specs.Demands.{graphOf, SameWrites, Witnesses, Demand3, JudgeDemand3}
-use Rattle.trace.proofs.Tests.{either, Tests, tests-map, tests-false, test-and, test-or, test-not, test-eq}
+use Rattle.trace.specs.Orders.{occurrences, Order, KeepsArcs, positions, select}
+use Rattle.trace.specs.Outcome.{says, clean, race, judgement, inD?, other?, schedule, sizes, orderRoom, Outcome, firstOrder, secondOrder, judgeChecked, judgeOutcome}
+use Rattle.trace.specs.Demands.{graphOf, SameWrites, Witnesses, InPositionOrder, Scheduled, Demand3, JudgeDemand3}
+use Rattle.trace.proofs.Tests.{by-test, either, lt-or-le, Tests, tests-map, tests-fails, tests-false, test-and, test-or, test-not, test-eq}
+use Rattle.trace.proofs.Lists.{occurrences-select-passed, occurrences-select-failed, rising-select, rising-countUp}
+use Rattle.trace.proofs.OrderFacts.{positions-order}
 use Rattle.trace.proofs.Lines.{graph-all}
 use Rattle.trace.proofs.Forward.{graph-forward}
 use Rattle.trace.proofs.Paths.{Forward}
@@ -33,6 +36,27 @@ test-in-D tr graph forward s t p =
     tests-map (λ h. record { not-s = h .0 .0; not-t = h .0 .1; reaches = h .1 }) (λ d. ((d .not-s, d .not-t), d .reaches))
     (test-and _ _ (test-and _ _ (test-not _ (test-eq p s)) (test-not _ (test-eq p t)))
     (test-or _ _ (test-reach tr graph forward p s) (test-reach tr graph forward p t)))
+
+-- What passes a test, of the positions up to t.
+selected : (t : ℕ) (P : ℕ → Type 0) (test : ℕ → Bool) → ((p : ℕ) → Tests (test p) (P p)) → InPositionOrder t P (select test (positions (suc t)))
+selected t P test tests =
+    record {
+      rising = rising-select test (positions (suc t)) (rising-countUp 0 (suc t));
+      entries = λ p. by-test (test p) (passed p) (failed p);
+    }
+  where
+    passed : (p : ℕ) → test p ≡ true → (0 < occurrences p (select test (positions (suc t)))) ↔ ((p ≤ t) × P p)
+    passed p e =
+        let same = occurrences-select-passed test p (positions (suc t)) e in (
+          λ h. either (lt-or-le p (suc t)) (λ l. (omega arith, tests p .0 e)) (λ l. absurd (omega (arith, positions-order (suc t) .no-other p l))),
+          λ h. let below = h .0 in omega (arith, positions-order (suc t) .once p (omega arith)),
+        )
+
+    failed : (p : ℕ) → test p ≡ false → (0 < occurrences p (select test (positions (suc t)))) ↔ ((p ≤ t) × P p)
+    failed p e = (
+      λ h. absurd (omega (arith, occurrences-select-failed test p (positions (suc t)) e)),
+      λ h. absurd (tests-fails _ (tests p) e (h .1)),
+    )
 
 module _ (tr : Trace) (n : ℕ) where
   abbrev graph : ℕ
@@ -67,6 +91,23 @@ module _ (tr : Trace) (n : ℕ) where
     pub race-length : (a b : ℕ) → length (schedule (inD? tr graph s t) s t a b) ≡ suc t
     race-length = schedule-length (inD? tr graph s t) s t (race-before .0) (not-in-D s (inl refl)) (not-in-D t (inr refl))
 
+    -- In each order D and the others stand in position order.
+    pub race-scheduled : (a b : ℕ) → Scheduled tr graph s t a b (schedule (inD? tr graph s t) s t a b)
+    race-scheduled a b =
+        record {
+          earlier = select (inD? tr graph s t) (positions (suc t));
+          later = select (other? (inD? tr graph s t) s t) (positions (suc t));
+          listed = refl;
+          all-D = selected t (InD tr graph s t) (inD? tr graph s t) (test-in-D tr graph forward s t);
+          all-other = selected t _ (other? (inD? tr graph s t) s t) test-other;
+        }
+      where
+        test-other : (p : ℕ) → Tests (other? (inD? tr graph s t) s t p) ((p ≢ s) × (p ≢ t) × (InD tr graph s t p → ⊥))
+        test-other p =
+            tests-map (λ h. (λ e. h (inr (inl e)), λ e. h (inr (inr e)), λ d. h (inl d)))
+            (λ h w. either w (h .2) (λ v. either v (h .0) (h .1)))
+            (test-not _ (test-or _ _ (test-in-D tr graph forward s t p) (test-or _ _ (test-eq p s) (test-eq p t))))
+
 -- The order buffers hold the two lists, and the rest is as it was.
 module _ (tr : Trace) (n s t : ℕ) (e : judgement haltOperand tr n ≡ says (race s t)) (a b : ℕ) (buffer : List ℕ) where
   abbrev listed : List ℕ
@@ -88,6 +129,8 @@ module _ (tr : Trace) (n : ℕ) (b₁ b₂ : List ℕ) where
         when-clean = clean-same tr n;
         when-race = λ s t e.
             rw (e, firstOrder, secondOrder, race-taken tr n s t e s t b₁, race-taken tr n s t e t s b₂) (race-witnesses tr n s t e);
+        holds₁ = λ s t e. rw (e, firstOrder, race-taken tr n s t e s t b₁) (race-scheduled tr n s t e s t);
+        holds₂ = λ s t e. rw (e, secondOrder, race-taken tr n s t e t s b₂) (race-scheduled tr n s t e t s);
         unchanged₁ = λ s t e. rw (e, firstOrder) (race-dropped tr n s t e s t b₁);
         unchanged₂ = λ s t e. rw (e, secondOrder) (race-dropped tr n s t e t s b₂);
       }
@@ -105,6 +148,8 @@ module _ (kinds tasks operands workspace first second : List ℕ) where
       record {
         when-clean = λ e. absurd (refused-not-says refl e);
         when-race = λ s t e. absurd (refused-not-says refl e);
+        holds₁ = λ s t e. absurd (refused-not-says refl e);
+        holds₂ = λ s t e. absurd (refused-not-says refl e);
         unchanged₁ = λ s t e. refl;
         unchanged₂ = λ s t e. refl;
       }

@@ -25,6 +25,7 @@ pub mod SameWrites
 pub mod WitnessOrders
 pub mod Demand3
 pub mod Demand1
+pub mod DemandsDecide
 pub mod PairMatters
 pub mod LaterEvents
 pub mod Table

@@ -5,7 +5,7 @@ use Prim.Native.Nat.{ℕ, zero, suc, _+_, _-_, _<_, _≤_}
 use native.Mathlib.Nat.{add-zero, zero-add}
 use native.Mathlib.Omega.{arith}
 use mathlib.Core.Path.{_≡_, refl, sym, ap, _∙_}
-use mathlib.Core.Logic.{_≢_, _↔_}
+use mathlib.Core.Logic.{_⊎_, inl, inr, _≢_, _↔_}
 use mathlib.Core.Bool.{Bool, true, false, true≢false}
 use mathlib.Core.List.{List, [], _∷_, _++_, append-nil}
 use mathlib.Core.Option.{Option, none, some, Option·none-ne-some, Option·some-injective}
@@ -13,7 +13,7 @@ use lib.Dec.{eqb}
 use lib.ListN.{length, getD, replicate, drop, length-append, length-replicate, length-drop, getD-replicate, List·getD-append}
 use lib.Seq.{getD-append-add, getD-drop}
 use borrow.Author.Tests.{eqb-true, eqb-false, eq-eqb, ne-eqb}
-use Rattle.trace.specs.Orders.{oneIf, occurrences, place, countUp, positions, select, before, orThis, latest}
+use Rattle.trace.specs.Orders.{oneIf, occurrences, Rising, place, countUp, positions, select, before, orThis, latest}
 use Rattle.trace.proofs.Tests.{by-test, either, by-option, same-or-not, lt-or-le}
 
 -- ---- how often a number stands in a list
@@ -288,10 +288,13 @@ module _ (test wider : ℕ → Bool) (implied : (x : ℕ) → test x ≡ true �
 
 -- ---- rising lists
 
--- Each entry is less than all that follow it.
-abbrev pub Rising : List ℕ → Type 0
-Rising [] = Unit {0}
-Rising (x ∷ xs) = ((y : ℕ) → 0 < occurrences y xs → x < y) × Rising xs
+-- Each number stands in one once at most.
+rising-once : (p : ℕ) (xs : List ℕ) → Rising xs → occurrences p xs ≤ 1
+rising-once p [] rising = omega arith
+rising-once p (x ∷ xs) rising =
+    either (same-or-not x p)
+    (λ e. either (lt-or-le 0 (occurrences p xs)) (λ h. absurd (omega (arith, rising .0 p h))) (λ h. omega (arith, oneIf-same x p e)))
+    (λ d. omega (arith, oneIf-other x p d, rising-once p xs (rising .1)))
 
 pub rising-select : (test : ℕ → Bool) (xs : List ℕ) → Rising xs → Rising (select test xs)
 rising-select test [] h = tt
@@ -332,6 +335,15 @@ rising-unique (x ∷ xs) (y ∷ ys) risingˣ risingʸ h =
     let tails : xs ≡ ys =
     rising-unique xs ys (risingˣ .1) (risingʸ .1) (λ p. omega (arith, h p, ap (λ (z : ℕ). oneIf z p) heads)) in
     cc
+
+-- The same, where each number of the one stands in the other.
+pub rising-same :
+    (xs ys : List ℕ) → Rising xs → Rising ys → ((p : ℕ) → (0 < occurrences p xs) ↔ (0 < occurrences p ys)) → xs ≡ ys
+rising-same xs ys risingˣ risingʸ h = rising-unique xs ys risingˣ risingʸ (λ p. same p (lt-or-le 0 (occurrences p xs)))
+  where
+    same : (p : ℕ) → (0 < occurrences p xs) ⊎ (occurrences p xs ≤ 0) → occurrences p xs ≡ occurrences p ys
+    same p (inl l) = omega (arith, h p .0 l, rising-once p xs risingˣ, rising-once p ys risingʸ)
+    same p (inr l) = let none : 0 < occurrences p ys → ⊥ = λ k. omega (arith, h p .1 k) in omega arith
 
 -- In this list, those that pass the test stand in the order of their numbers.
 abbrev pub InOrder : (ℕ → Bool) → List ℕ → Type 0

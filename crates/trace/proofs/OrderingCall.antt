@@ -93,6 +93,9 @@ module _ (tr : Trace) (n p q : ℕ) where
       let f : number′ ≡ number = one-row tr k number′ number (rw e at (w′ .1)) (w .1) in
       cc
 
+  broken-row : (number k : ℕ) → (k < n) × BreaksFirst tr k number → (5 ≤ number) × (number ≤ 12)
+  broken-row number k w = step-row haltOperand tr k number (w .1 .line) (w .1 .broken)
+
   -- The ordering call's answer about the first n events.
   pub ordering-demand : OrderingDemand tr n p q answer
   ordering-demand =
@@ -107,11 +110,11 @@ module _ (tr : Trace) (n p q : ℕ) where
           λ e. either (means-is (refused number k) e) (λ b. absurd (omega (arith, b .0))) (λ w. w),
           λ w. answer-broken number k w answer answer-means,
         );
-        rows = λ number k e. either (means-is (refused number k) e) (λ b. inr (b .0, b .1)) (λ w. inl (broken-row number k w));
       }
-    where
-      broken-row : (number k : ℕ) → (k < n) × BreaksFirst tr k number → (5 ≤ number) × (number ≤ 12)
-      broken-row number k w = step-row haltOperand tr k number (w .1 .line) (w .1 .broken)
+
+  -- It is refused by one of the rows 5 to 12, or by 13 at 0.
+  pub ordering-rows : (number k : ℕ) → answer ≡ refused number k → ((5 ≤ number) × (number ≤ 12)) ⊎ ((number ≡ 13) × (k ≡ 0))
+  ordering-rows number k e = either (means-is (refused number k) e) (λ b. inr (b .0, b .1)) (λ w. inl (broken-row number k w))
 
 module _ (kinds tasks operands workspace : List ℕ) (p q : ℕ) where
   demand-checked : (c : Checked ℕ) (n : ℕ) → c ≡ passes n

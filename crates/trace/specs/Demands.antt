@@ -2,14 +2,14 @@
 use Prim.Native.Nat.{ℕ, suc, _+_, _<_, _≤_}
 use mathlib.Core.Path.{_≡_}
 use mathlib.Core.Bool.{Bool, true, false}
-use mathlib.Core.List.{List}
+use mathlib.Core.List.{List, _∷_, _++_}
 use mathlib.Core.Logic.{_⊎_, _↔_, _≢_}
 use lib.ListN.{length, getD, take, drop}
 use Rattle.trace.specs.Trace.{Trace, traceOf, READ, WRITE, WORKSPACE-CELLS}
 use Rattle.trace.specs.Line.{Line, passes, fails, haltOperand, step, lineAfter}
 use Rattle.trace.specs.Graph.{Reach, graphEvents}
-use Rattle.trace.specs.Race.{Conflict, Race}
-use Rattle.trace.specs.Orders.{Order, KeepsArcs, positions, lastWrite, sees}
+use Rattle.trace.specs.Race.{Conflict, Race, InD}
+use Rattle.trace.specs.Orders.{occurrences, Rising, Order, KeepsArcs, positions, lastWrite, sees}
 use Rattle.trace.specs.Outcome.{Reply, says, refused, Verdict, clean, race, sizes, orderRoom}
 
 -- ---- demand 1
@@ -30,11 +30,13 @@ pub record FirstCellsZero (n : ℕ) (before after : List ℕ) : Type 0 where
   pub rest : (i : ℕ) → WORKSPACE-CELLS + n ≤ i → getD after i 0 ≡ getD before i 0
 
 -- DEMAND 1 of the judge: of its answer to what was lent, and of what the workspace and the two order buffers hold then.
-pub record JudgeDemand1 (kinds workspace first second : List ℕ) (answer : Reply Verdict) (workspace′ first′ second′ : List ℕ) : Type 0 where
+pub record JudgeDemand1 (kinds tasks operands workspace first second : List ℕ) (answer : Reply Verdict) (workspace′ first′ second′ : List ℕ) : Type 0 where
   -- "The answer to every trace and every set of lent buffers is clean, race with two event positions, or one refusal from the table in document 01 with
   -- its position."
   pub race-positions : (s t : ℕ) → answer ≡ says (race s t) → (s < t) × (t < length kinds)
   pub refusals : (number position : ℕ) → answer ≡ refused number position → SizeRefusal 4 number position ⊎ EventRefusal (length kinds) number position
+  -- "The checks go 1, 2, 3, 4; then for each event": the row that the sizes meet is the answer.
+  pub size-row : (number : ℕ) → orderRoom first second (sizes kinds tasks operands workspace) ≡ fails number → answer ≡ refused number 0
   -- "With clean or refused neither buffer changes."
   pub orders-kept : ((s t : ℕ) → answer ≢ says (race s t)) → (first′ ≡ first) × (second′ ≡ second)
   -- No buffer changes its length.
@@ -48,10 +50,11 @@ pub record JudgeDemand1 (kinds workspace first second : List ℕ) (answer : Repl
       ((number position : ℕ) → answer ≡ refused number position → 4 < number) → FirstCellsZero (length kinds) workspace workspace′
 
 -- DEMAND 1 of the ordering call: "The ordering call says yes, no or such a refusal." It has no order buffers, and row 13 besides.
-pub record OrderingDemand1 (kinds workspace : List ℕ) (answer : Reply Bool) (workspace′ : List ℕ) : Type 0 where
+pub record OrderingDemand1 (kinds tasks operands workspace : List ℕ) (answer : Reply Bool) (workspace′ : List ℕ) : Type 0 where
   pub refusals :
       (number position : ℕ) → answer ≡ refused number position
       → SizeRefusal 3 number position ⊎ EventRefusal (length kinds) number position ⊎ ((number ≡ 13) × (position ≡ 0))
+  pub size-row : (number : ℕ) → sizes kinds tasks operands workspace ≡ fails number → answer ≡ refused number 0
   pub length-workspace : length workspace′ ≡ length workspace
   -- "It treats the workspace as the judge does."
   pub workspace-kept : (number position : ℕ) → answer ≡ refused number position → number ≤ 3 → workspace′ ≡ workspace
@@ -101,22 +104,11 @@ module _ (tr : Trace) (n : ℕ) where
     pub first : NoRaceBefore tr graphOf t
     pub earliest : (p : ℕ) → p < s → Race tr graphOf p t → ⊥
 
-  -- Exactly one of the three holds of every trace, with one number and position, or one pair.
-  pub record ExactlyOne : Type 0 where
-    pub one-holds : IsClean ⊎ ((number : ℕ) × (p : ℕ) × IsRefused number p) ⊎ ((s : ℕ) × (t : ℕ) × IsRace s t)
-    pub clean-or-refused : (number p : ℕ) → IsClean → IsRefused number p → ⊥
-    pub clean-or-race : (s t : ℕ) → IsClean → IsRace s t → ⊥
-    pub refused-or-race : (number p s t : ℕ) → IsRefused number p → IsRace s t → ⊥
-    pub one-refusal : (number p number′ p′ : ℕ) → IsRefused number p → IsRefused number′ p′ → (number ≡ number′) × (p ≡ p′)
-    pub one-race : (s t s′ t′ : ℕ) → IsRace s t → IsRace s′ t′ → (s ≡ s′) × (t ≡ t′)
-
   -- DEMAND 2 of an answer, past rows 1 to 4.
   pub record Demand2 (answer : Reply Verdict) : Type 0 where
     pub clean-iff : (answer ≡ says clean) ↔ IsClean
     pub refused-iff : (number p : ℕ) → (answer ≡ refused number p) ↔ IsRefused number p
     pub race-iff : (s t : ℕ) → (answer ≡ says (race s t)) ↔ IsRace s t
-    pub rows : (number p : ℕ) → answer ≡ refused number p → (5 ≤ number) × (number ≤ 12)
-    pub exactly-one : ExactlyOne
 
 -- DEMAND 2 of the judge's answer to what was lent: "Past the size checks (rows 1 to 4)" it holds of the trace's n events.
 pub record JudgeDemand2 (kinds tasks operands workspace first second : List ℕ) (answer : Reply Verdict) : Type 0 where
@@ -133,7 +125,6 @@ pub record OrderingDemand (tr : Trace) (n p q : ℕ) (answer : Reply Bool) : Typ
   pub beyond-iff : (answer ≡ refused 13 0) ↔ (KeepsRules tr n × ((n ≤ p) ⊎ (n ≤ q)))
   -- Rows 5 to 12: event k is the first that breaks a rule, and meets the row of this number.
   pub refused-iff : (number k : ℕ) → number ≤ 12 → (answer ≡ refused number k) ↔ ((k < n) × BreaksFirst tr k number)
-  pub rows : (number k : ℕ) → answer ≡ refused number k → ((5 ≤ number) × (number ≤ 12)) ⊎ ((number ≡ 13) × (k ≡ 0))
 
 -- The same of the ordering call's answer to what was lent.
 pub record OrderingCallDemand (kinds tasks operands workspace : List ℕ) (p q : ℕ) (answer : Reply Bool) : Type 0 where
@@ -166,6 +157,19 @@ pub record Witnesses (tr : Trace) (graph s t : ℕ) (o₁ o₂ : List ℕ) : Typ
   pub keeps₂ : KeepsArcs tr graph (suc t) o₂
   pub swapped : Swapped s t o₁ o₂
 
+-- "in position order": a list of those positions up to t of which P holds.
+pub record InPositionOrder (t : ℕ) (P : ℕ → Type 0) (list : List ℕ) : Type 0 where
+  pub rising : Rising list
+  pub entries : (p : ℕ) → (0 < occurrences p list) ↔ ((p ≤ t) × P p)
+
+-- "D in position order, then s, t, then all other positions up to t in position order": with a and b for s and t, either way round.
+pub record Scheduled (tr : Trace) (graph s t a b : ℕ) (o : List ℕ) : Type 0 where
+  pub earlier : List ℕ
+  pub later : List ℕ
+  pub listed : o ≡ earlier ++ (a ∷ b ∷ later)
+  pub all-D : InPositionOrder t (InD tr graph s t) earlier
+  pub all-other : InPositionOrder t (λ p. (p ≢ s) × (p ≢ t) × (InD tr graph s t p → ⊥)) later
+
 -- DEMAND 3 of an answer about the first n events, and of the order buffers before (b₁, b₂) and after (a₁, a₂).
 pub record Demand3 (tr : Trace) (n : ℕ) (answer : Reply Verdict) (b₁ b₂ a₁ a₂ : List ℕ) : Type 0 where
   -- "if the judge said clean, then whatever order of all the events the cores take, so long as it keeps all arcs of the task graph, each read sees the
@@ -173,6 +177,10 @@ pub record Demand3 (tr : Trace) (n : ℕ) (answer : Reply Verdict) (b₁ b₂ a�
   pub when-clean : answer ≡ says clean → (o : List ℕ) → Order n o → KeepsArcs tr (graphOf tr n) n o → SameWrites tr n o
   -- "If it said race s t, the first t + 1 cells of the two order buffers hold two orders of the events up to t, t included."
   pub when-race : (s t : ℕ) → answer ≡ says (race s t) → Witnesses tr (graphOf tr n) s t (take (suc t) a₁) (take (suc t) a₂)
+  -- "The first order buffer (u16 cells) then holds D in position order, then s, t, then all other positions up to t in position order. The second holds
+  -- the same with t, s."
+  pub holds₁ : (s t : ℕ) → answer ≡ says (race s t) → Scheduled tr (graphOf tr n) s t s t (take (suc t) a₁)
+  pub holds₂ : (s t : ℕ) → answer ≡ says (race s t) → Scheduled tr (graphOf tr n) s t t s (take (suc t) a₂)
   -- "Cells from t + 1 on are unchanged."
   pub unchanged₁ : (s t : ℕ) → answer ≡ says (race s t) → drop (suc t) a₁ ≡ drop (suc t) b₁
   pub unchanged₂ : (s t : ℕ) → answer ≡ says (race s t) → drop (suc t) a₂ ≡ drop (suc t) b₂

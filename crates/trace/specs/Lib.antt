@@ -1,5 +1,6 @@
 -- What a reader must believe, in the order in which to read it.
 pub mod Trace
+pub mod Lent
 pub mod Line
 pub mod Graph
 pub mod Race

@@ -17,6 +17,11 @@ abbrev pub occurrences : ℕ → List ℕ → ℕ
 occurrences p [] = 0
 occurrences p (x ∷ xs) = oneIf x p + occurrences p xs
 
+-- Each entry is less than all that follow it.
+abbrev pub Rising : List ℕ → Type 0
+Rising [] = Unit {0}
+Rising (x ∷ xs) = ((y : ℕ) → 0 < occurrences y xs → x < y) × Rising xs
+
 -- "An order of a trace's events is a list that has each position once": each of 0 to n - 1, and no other.
 pub record Order (n : ℕ) (o : List ℕ) : Type 0 where
   pub once : (p : ℕ) → p < n → occurrences p o ≡ 1

@@ -4,8 +4,8 @@ use Rattle.judge.proofs.Judging.{examine-starts, examined-clean, examin
 use Rattle.judge.proofs.examine.Statement.{statement}
 use Rattle.judge.proofs.examine.Tie as tie
 
-run-requires : tie.Need-run-requires
-run-requires c κs =
+first-failure-requires : tie.Need-first-failure-requires
+first-failure-requires c κs =
     let laid = c .before .before .before in
     let start = laid .before .before .before .before .before .before .before .before in
     examine-starts (start .pre .0) (laid .start .ensures .1) (laid .start .result) (laid .start .ensures .0)
@@ -16,7 +16,7 @@ report-requires c κs =
     let ran = told .before .before .before .before in
     let laid = ran .before .before .before .before in
     let start = laid .before .before .before .before .before .before .before .before in
-    let asks = examine-reports (start .pre .0) (laid .start .ensures .1) _ (ran .run .result) (ran .run .ensures) _ (told .found2 .given .1) in
+    let asks = examine-reports (start .pre .0) (laid .start .ensures .1) _ (ran .first-failure .result) (ran .first-failure .ensures) _ (told .found2 .given .1) in
     (asks .0, (start .pre .1, asks .1))
 
 returns : tie.Need-returns
@@ -24,7 +24,7 @@ returns c =
     let ran = c .before .before .before .before in
     let laid = ran .before .before .before .before in
     let start = laid .before .before .before .before .before .before .before .before in
-    examined-clean (start .pre .0) (laid .start .ensures .1) _ (ran .run .result) (ran .run .ensures) _ _ (c .enum-told .given .1)
+    examined-clean (start .pre .0) (laid .start .ensures .1) _ (ran .first-failure .result) (ran .first-failure .ensures) _ _ (c .enum-told .given .1)
 
 returns-2 : tie.Need-returns-2
 returns-2 c =
@@ -32,7 +32,7 @@ returns-2 c =
     let ran = told .before .before .before .before in
     let laid = ran .before .before .before .before in
     let start = laid .before .before .before .before .before .before .before .before in
-    examined-refused (start .pre .0) (laid .start .ensures .1) _ (ran .run .result) (ran .run .ensures) _ _ _ _ (told .found .given .1)
+    examined-refused (start .pre .0) (laid .start .ensures .1) _ (ran .first-failure .result) (ran .first-failure .ensures) _ _ _ _ (told .found .given .1)
 
 returns-3 : tie.Need-returns-3
 returns-3 c =
@@ -41,7 +41,7 @@ returns-3 c =
     let ran = told .before .before .before .before in
     let laid = ran .before .before .before .before in
     let start = laid .before .before .before .before .before .before .before .before in
-    examined-race (start .pre .0) (laid .start .ensures .1) _ (ran .run .result) (ran .run .ensures) _ _ _ _ _ (reported .report .result) _ (told .found2 .given .1)
+    examined-race (start .pre .0) (laid .start .ensures .1) _ (ran .first-failure .result) (ran .first-failure .ensures) _ _ _ _ _ (reported .report .result) _ (told .found2 .given .1)
     (reported .report .ensures)
 
 pub examine-spec : {M : Type 1} → statement M
@@ -49,7 +49,7 @@ examine-spec =
     tie.close
     (tie.spec
     (λ c κs. search needs)
-    run-requires
+    first-failure-requires
     (λ c. search needs)
     (λ c. search needs)
     (λ c. search needs)

@@ -13,8 +13,8 @@ returns c =
     let a = sizes .before .before .before .before .before .before .args in
     asked-sizes (a .kinds .now) (a .tasks .now) (a .operands .now) (a .ws .now) (a .p) (a .q) (sizes .size-row .result) (sizes .size-row .ensures) (c .if1 .taken)
 
-order-requires : tie.Need-order-requires
-order-requires c κs =
+ordering-requires : tie.Need-ordering-requires
+ordering-requires c κs =
     let sizes = c .before .before in
     let a = sizes .before .before .before .before .before .before .args in
     sized-here (a .kinds .now) (a .tasks .now) (a .operands .now) (a .ws .now) (sym (c .before .if1 .left) ∙ sizes .size-row .ensures)
@@ -25,7 +25,7 @@ clear-requires c κs =
     let sizes = called .before .before .before in
     let a = sizes .before .before .before .before .before .before .args in
     let sized = sized-here (a .kinds .now) (a .tasks .now) (a .operands .now) (a .ws .now) (sym (called .before .before .if1 .left) ∙ sizes .size-row .ensures) in
-    omega (arith, sized .room, called .order .ensures .rest .long)
+    omega (arith, sized .room, called .ordering .ensures .rest .long)
 
 returns-2 : tie.Need-returns-2
 returns-2 c =
@@ -33,10 +33,10 @@ returns-2 c =
     let called = clearing .before .before .before .before in
     let sizes = called .before .before .before in
     let a = sizes .before .before .before .before .before .before .args in
-    asked-order (a .kinds .now) (a .tasks .now) (a .operands .now) (a .ws .now) (a .p) (a .q) (called .order .result) _ _
-    (sym (called .before .before .if1 .left) ∙ sizes .size-row .ensures) (called .order .ensures) (clearing .clear .ensures)
+    asked-order (a .kinds .now) (a .tasks .now) (a .operands .now) (a .ws .now) (a .p) (a .q) (called .ordering .result) _ _
+    (sym (called .before .before .if1 .left) ∙ sizes .size-row .ensures) (called .ordering .ensures) (clearing .clear .ensures)
 
 pub ordering-spec : {M : Type 1} → statement M
 ordering-spec =
     tie.close
-    (tie.spec (λ c κs. search needs) (λ c. search needs) returns order-requires (λ c. search needs) clear-requires (λ c. search needs) returns-2)
+    (tie.spec (λ c κs. search needs) (λ c. search needs) returns ordering-requires (λ c. search needs) clear-requires (λ c. search needs) returns-2)

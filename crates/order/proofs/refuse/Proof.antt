@@ -1,9 +1,0 @@
--- `order::refuse` meets its contract. Assumes nothing.
-use mathlib.Core.Path.{refl}
-use Rattle.trace.specs.Answers.{orderingReply}
-use Rattle.order.proofs.refuse.Statement.{statement}
-use Rattle.order.proofs.refuse.Tie as tie
-
-pub refuse-spec : {M : Type 1} → statement M
-unfolding orderingReply
-refuse-spec = tie.close (tie.spec (λ c. refl))
