@@ -1,10 +1,14 @@
 /* The fork-join race judge: a trace of one run of a fork-join program, judged for data races.
  *
- * Link libcapi.a, which `rt staticlib capi` writes. It needs only memset of the C library. Every call
- * takes any contents and any lengths: nothing is required of the numbers in the slices. What the
- * language of the caller must see to: each pointer leads to as many cells as its length says (also
- * where the length is 0 it is not null), a pointer to uint16_t or uint64_t is aligned for it, and no
- * buffer that is written overlaps another slice of the same call.
+ * Link libcapi.a, which `rt staticlib capi` writes, for x86-64 Linux. It needs only memset of the C
+ * library. Every call takes any contents and any lengths: nothing is required of the numbers in the
+ * slices. What the language of the caller must see to: each pointer leads to as many cells as its
+ * length says (also where the length is 0 it is not null), `values` leads to two and is not null, a
+ * pointer to uint16_t or uint64_t is aligned for it, and no buffer that is written overlaps another
+ * slice of the same call.
+ *
+ * No call keeps anything between calls: what it answers and leaves depends on what it is lent alone,
+ * and threads may call at the same time, each with buffers of its own.
  *
  * A TRACE is three slices of one length. Entry p of each makes event p; positions count from 0.
  *   kinds     RACEJUDGE_READ .. RACEJUDGE_HALT

@@ -15,7 +15,7 @@ use Rattle.trace.proofs.Tests.{either, same-or-not, lt-or-le}
 use Rattle.forest.specs.Forest.{LINK, SIZE, FOREST-CELLS, link, size, Chain, top, up, MAX-LINKS, topOf, linksOf, countBelow, tasksUnder, IsTop, Forest, attached, merged}
 use Rattle.forest.proofs.Merged.{merged-one, merged-kept, bits-merged, test-merged}
 use Rattle.forest.proofs.Count.{count-le, count-same, count-sum}
-use Rattle.forest.proofs.Chains.{chain-top, chain-links, chain-ends, links-few}
+use Rattle.forest.proofs.Chains.{chain-top, chain-links, chain-ends, links-bounded}
 use Rattle.forest.proofs.Tops.{top-is-top}
 
 -- ---- the cells
@@ -115,7 +115,7 @@ module _ {c : List ℕ} (f : Forest c) {x y : ℕ} (ix : IsTop c x) (iy : IsTop 
   moved-other : (t : ℕ) → t < TASKS → topOf c t ≢ x → Moved t
   moved-other t l n =
       let r = chain-other (f .ends t l) l n in
-      let few = links-few c t in
+      let few = links-bounded c t in
       let i = top-is-top f t l in
       record {
         tops = chain-top r few ∙ sym (merged-kept x y (topOf c t) n);

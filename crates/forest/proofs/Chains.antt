@@ -36,9 +36,10 @@ links-within (suc n) c t = go (λ p. links-within n c p) (link c t)
     go ih zero = omega arith
     go ih (suc p) = omega (arith, ih p)
 
-pub links-few : (c : List ℕ) (t : ℕ) → linksOf c t ≤ MAX-LINKS
+-- `linksOf` stops at 10, whatever the cells hold. That no chain of a forest is longer is `chain-few`.
+pub links-bounded : (c : List ℕ) (t : ℕ) → linksOf c t ≤ MAX-LINKS
 unfolding linksOf
-links-few c t = links-within MAX-LINKS c t
+links-bounded c t = links-within MAX-LINKS c t
 
 -- A chain from a task ends in a task that is a top.
 pub chain-is-top : {c : List ℕ} {t h k : ℕ} → Forest c → Chain c t h k → t < TASKS → IsTop c h
@@ -49,3 +50,13 @@ chain-is-top f (up {t = t} e r) l = chain-is-top f r (omega (arith, f .inside t 
 pub chain-rest : {c : List ℕ} {t h k p : ℕ} → Chain c t h k → link c t ≡ suc p → (j : ℕ) × (k ≡ suc j) × Chain c p h j
 chain-rest (top e) n = absurd (omega arith)
 chain-rest {c} {h = h} {p = p} (up {p = q} {k = j} e r) n = let s : q ≡ p = omega arith in (j, refl, rw s at r)
+
+-- Two chains from one task have one length.
+chain-same : {c : List ℕ} {t h k h′ k′ : ℕ} → Chain c t h k → Chain c t h′ k′ → k ≡ k′
+chain-same (top e) (top e′) = refl
+chain-same (top e) (up e′ r′) = absurd (omega arith)
+chain-same (up e r) r′ = let rest = chain-rest r′ e in omega (arith, chain-same r (rest .2), rest .1)
+
+-- A chain of k links from a task of a forest to its top has at most 10 of them.
+pub chain-few : {c : List ℕ} {t h k : ℕ} → Forest c → t < TASKS → Chain c t h k → k ≤ MAX-LINKS
+chain-few {c} {t} f l r = omega (arith, chain-same r (f .ends t l), links-bounded c t)

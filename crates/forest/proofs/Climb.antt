@@ -1,12 +1,12 @@
 -- The search for a top, link by link: what holds before each turn of the loop of `find`. Assumes nothing.
 use Prim.Native.Nat.{ℕ, suc, _+_, _-_, _≤_, _<_}
-use mathlib.Core.Path.{_≡_, sym, _∙_}
+use mathlib.Core.Path.{_≡_, sym, subst₂, _∙_}
 use mathlib.Core.List.{List}
 use mathlib.Core.Logic.{_≢_}
 use native.Mathlib.Omega.{arith}
 use Rattle.trace.specs.Trace.{TASKS}
-use Rattle.forest.specs.Forest.{link, MAX-LINKS, topOf, linksOf, IsTop, Forest, Found}
-use Rattle.forest.proofs.Chains.{links-few}
+use Rattle.forest.specs.Forest.{link, Chain, MAX-LINKS, topOf, linksOf, IsTop, Forest, Found}
+use Rattle.forest.proofs.Chains.{links-bounded}
 use Rattle.forest.proofs.Tops.{top-own, links-own, top-parent, links-parent}
 
 -- The search for the top of `task` has followed `links` links and stands at the task `at`, whose link is l.
@@ -32,7 +32,7 @@ module _ {c : List ℕ} (f : Forest c) {task at links l : ℕ} (w : Climbing c t
   links-less n = omega (arith, links-parent f at (w .below) (parent n))
 
   pub links-small : links ≤ MAX-LINKS
-  links-small = omega (arith, w .total, links-few c task)
+  links-small = omega (arith, w .total, links-bounded c task)
 
   pub climb-on : l ≢ 0 → (l′ : ℕ) → l′ ≡ link c (l - 1) → Climbing c task (l - 1) (links + 1) l′
   climb-on n l′ e =
@@ -43,7 +43,9 @@ module _ {c : List ℕ} (f : Forest c) {task at links l : ℕ} (w : Climbing c t
         total = omega (arith, links-parent f at (w .below) (parent n), w .total);
       }
 
-  pub climbed : l ≡ 0 → Found c task at links
-  climbed z =
+  pub climbed : task < TASKS → l ≡ 0 → Found c task at links
+  climbed inside z =
       let i : IsTop c at = record { below = w .below; free = sym (w .here) ∙ z } in
-      record { task = sym (top-own i) ∙ w .tops; links = omega (arith, links-own i, w .total); few = links-small; isTop = i }
+      let h : topOf c task ≡ at = sym (w .tops) ∙ top-own i in
+      let k : linksOf c task ≡ links = omega (arith, links-own i, w .total) in
+      record { chain = subst₂ (λ (x y : ℕ). Chain c task x y) h k (f .ends task inside); few = links-small; task = sym h; isTop = i }

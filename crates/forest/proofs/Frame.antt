@@ -10,7 +10,7 @@ use lib.Seq.{getD-set-other}
 use Rattle.trace.specs.Trace.{TASKS}
 use Rattle.forest.specs.Forest.{LINK, SIZE, FOREST-CELLS, link, size, Chain, top, up, topOf, linksOf, IsTop, Forest}
 use Rattle.forest.proofs.Count.{count-same}
-use Rattle.forest.proofs.Chains.{chain-top, chain-links, chain-ends, links-few}
+use Rattle.forest.proofs.Chains.{chain-top, chain-links, chain-ends, links-bounded}
 use Rattle.forest.proofs.Tops.{top-is-top}
 
 -- The cells d hold in the forest's tables what c holds there.
@@ -32,10 +32,10 @@ module _ {c d : List ℕ} (f : Forest c) (s : SameTables c d) where
   chain-frame (up {t = t} e r) l = up (link-frame t l ∙ e) (chain-frame r (omega (arith, f .inside t l)))
 
   pub top-frame : (t : ℕ) → t < TASKS → topOf d t ≡ topOf c t
-  top-frame t l = chain-top (chain-frame (f .ends t l) l) (links-few c t)
+  top-frame t l = chain-top (chain-frame (f .ends t l) l) (links-bounded c t)
 
   pub links-frame : (t : ℕ) → t < TASKS → linksOf d t ≡ linksOf c t
-  links-frame t l = chain-links (chain-frame (f .ends t l) l) (links-few c t)
+  links-frame t l = chain-links (chain-frame (f .ends t l) l) (links-bounded c t)
 
   pub is-top-frame : (h : ℕ) → IsTop c h ↔ IsTop d h
   is-top-frame h = (
@@ -48,7 +48,7 @@ module _ {c d : List ℕ} (f : Forest c) (s : SameTables c d) where
       record {
         room = s .room;
         inside = λ t l. omega (arith, link-frame t l, f .inside t l);
-        ends = λ t l. chain-ends (chain-frame (f .ends t l) l) (links-few c t);
+        ends = λ t l. chain-ends (chain-frame (f .ends t l) l) (links-bounded c t);
         counted = λ h i.
             size-frame h (i .below)
             ∙ (f .counted h (is-top-frame h .1 i)

@@ -1,4 +1,4 @@
--- Laws that belong to no one function. Crates above use Cells, Chains (`links-few`), Tops, Start, Merged, United and Frame.
+-- Laws that belong to no one function. Crates above use Cells, Chains (`chain-few`), Tops, Start, Merged, United and Frame.
 pub mod Cells
 pub mod Count
 pub mod Merged

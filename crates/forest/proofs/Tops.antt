@@ -5,7 +5,7 @@ use mathlib.Core.List.{List}
 use native.Mathlib.Omega.{arith}
 use Rattle.trace.specs.Trace.{TASKS}
 use Rattle.forest.specs.Forest.{link, top, topOf, linksOf, IsTop, Forest}
-use Rattle.forest.proofs.Chains.{chain-top, chain-links, chain-is-top, chain-rest, links-few}
+use Rattle.forest.proofs.Chains.{chain-top, chain-links, chain-is-top, chain-rest, links-bounded}
 
 -- A top is its own top, no link away.
 pub top-own : {c : List ℕ} {h : ℕ} → IsTop c h → topOf c h ≡ h
@@ -26,9 +26,9 @@ module _ {c : List ℕ} (f : Forest c) (t : ℕ) (below : t < TASKS) where
   pub top-parent : {p : ℕ} → link c t ≡ suc p → topOf c p ≡ topOf c t
   top-parent e =
       let rest = chain-rest (f .ends t below) e in
-      chain-top (rest .2) (omega (arith, rest .1, links-few c t))
+      chain-top (rest .2) (omega (arith, rest .1, links-bounded c t))
 
   pub links-parent : {p : ℕ} → link c t ≡ suc p → linksOf c t ≡ suc (linksOf c p)
   links-parent e =
       let rest = chain-rest (f .ends t below) e in
-      rest .1 ∙ ap suc (sym (chain-links (rest .2) (omega (arith, rest .1, links-few c t))))
+      rest .1 ∙ ap suc (sym (chain-links (rest .2) (omega (arith, rest .1, links-bounded c t))))

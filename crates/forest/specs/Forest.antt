@@ -101,12 +101,12 @@ pub record Forest (c : List ℕ) : Type 0 where
 
 -- What `find` answers for the task t: its top h, and the number k of links between.
 pub record Found (c : List ℕ) (t h k : ℕ) : Type 0 where
-  -- the top
-  pub task : h ≡ topOf c t
-  -- the links
-  pub links : k ≡ linksOf c t
-  -- at most 10 of them
+  -- so many links lead from the task to the top
+  pub chain : Chain c t h k
+  -- at most 10
   pub few : k ≤ MAX-LINKS
+  -- the top, as it is computed
+  pub task : h ≡ topOf c t
   -- the top is a task's number and has no parent
   pub isTop : IsTop c h
 

@@ -34,7 +34,9 @@ loop-again c =
     (c .cell2 .ensures)
 
 returns : tie.Need-returns Inv-loop μ-loop
-returns c = climbed (c .before .before .before .before .pre .0) (c .before .loop .inv) (c .loop-test .left)
+returns c =
+    let asked = c .before .before .before .before .pre in
+    climbed (asked .0) (c .before .loop .inv) (asked .1) (c .loop-test .left)
 
 pub find-spec : {M : Type 1} → statement M
 find-spec =
