@@ -4,9 +4,9 @@
 use Prim.Native.Nat.{ℕ}
 use mathlib.Core.List.{List, [], _∷_}
 use lib.ListN.{replicate}
-use Rattle.trace.specs.Trace.{READ, HALT}
+use Rattle.trace.specs.Trace.{Event, READ, HALT}
 use Rattle.trace.specs.Outcome.{refused}
-use Rattle.trace.specs.Runs.{Event, _read_, _write_, _fork_, _join_, _halt, Example, example, gives}
+use Rattle.trace.specs.Runs.{_read_, _write_, _fork_, _join_, _halt, Example, example, gives}
 
 -- Rows 1 to 4: the lengths of the three slices, the numbers of cells of the workspace and of the two order buffers, and the row. All is left unchanged.
 abbrev sized : ℕ → ℕ → ℕ → ℕ → ℕ → ℕ → ℕ → Example
