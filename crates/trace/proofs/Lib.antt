@@ -28,3 +28,4 @@ pub mod Demand1
 pub mod PairMatters
 pub mod LaterEvents
 pub mod Table
+pub mod Slices

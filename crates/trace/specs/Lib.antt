@@ -10,3 +10,4 @@ pub mod Demands
 pub mod Answers
 pub mod Runs
 pub mod Refusals
+pub mod Slices
