@@ -9,22 +9,25 @@ use lib.ListN.{length, take, drop, replicate, length-append, length-map, length-
 use lib.Dec.{leb}
 use lib.Seq.{take-at, length-take-le}
 use borrow.Author.Tests.{lt-ltb}
-use Rattle.trace.specs.Trace.{WORKSPACE-CELLS}
+use Rattle.trace.specs.Trace.{Event, WORKSPACE-CELLS}
 use Rattle.trace.specs.Outcome.{Reply, says, refused, Verdict, clean, race, judgeOutcome}
 use Rattle.trace.specs.Answers.{judgeReply}
+use Rattle.trace.specs.Slices.{Slices, slices}
 use Rattle.trace.specs.declared.Answer.{Answer}
 use Rattle.trace.specs.declared.Answer.the-variants.{Refused}
 use Rattle.trace.specs.declared.Refusal.{Refusal}
 use Rattle.trace.proofs.Demand1.{judge-demand-1}
 use Rattle.trace.proofs.Sizes.{refused-not-says}
 use Rattle.trace.proofs.Tests.{by-test}
+use Rattle.trace.proofs.Slices.{After}
 use Rattle.judge.specs.Entry.{judgeGives}
-use Rattle.text.specs.Translation.{Event, MAX-TEXT-EVENTS, translation, Slices, slices, Translated, translated}
+use Rattle.text.specs.Decided.{MAX-TEXT-EVENTS, Translated}
+use Rattle.text.specs.Translation.{translation, translated}
 use Rattle.text.specs.Answers.{translationReply, translatedOf}
 use Rattle.output.specs.Output.{output, Buffer, buffer, OUTPUT-BYTES, ofText, rendered}
 use Rattle.text.specs.declared.Translation.{Translation}
 use Rattle.text.specs.declared.Translation.the-variants.{Events, Refused as Turned}
-use Rattle.text.proofs.Accepted.{translation-at-most, Sized, After, slices-after}
+use Rattle.text.proofs.Accepted.{translation-at-most, Sized, slices-after}
 use Rattle.output.proofs.Rendered.{length-output}
 use Rattle.answer.specs.Answer.{Counts, zeros, judged, judgedEvents, printed, textAnswer, holding, answered, eventsRendered}
 

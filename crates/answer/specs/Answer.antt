@@ -6,9 +6,10 @@ use mathlib.Core.Bool.{cond}
 use mathlib.Core.List.{List, [], _++_, map}
 use lib.Dec.{leb}
 use lib.ListN.{length, take, drop, replicate}
-use Rattle.trace.specs.Trace.{WORKSPACE-CELLS}
+use Rattle.trace.specs.Trace.{Event, WORKSPACE-CELLS}
 use Rattle.trace.specs.Outcome.{Reply, says, refused, Outcome, judgeOutcome}
-use Rattle.text.specs.Translation.{Event, MAX-TEXT-EVENTS, translation}
+use Rattle.text.specs.Decided.{MAX-TEXT-EVENTS}
+use Rattle.text.specs.Translation.{translation}
 use Rattle.output.specs.Output.{output, Buffer, buffer, OUTPUT-BYTES, rendered}
 
 -- Lent cells, all 0.

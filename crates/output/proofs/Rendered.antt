@@ -13,7 +13,7 @@ use Rattle.trace.specs.Answers.{judgeReply}
 use Rattle.trace.specs.declared.Answer.{Answer}
 use Rattle.trace.specs.declared.Answer.the-variants.{Clean, Race, Refused}
 use Rattle.trace.specs.declared.Refusal.{Refusal}
-use Rattle.text.specs.Translation.{MAX-TEXT-EVENTS}
+use Rattle.text.specs.Decided.{MAX-TEXT-EVENTS}
 use Rattle.output.specs.Output.{CLEAN, RACE, REFUSED, rest, orderLine, orderLines, output, Buffer, buffer, addByte, add, OUTPUT-BYTES}
 use Rattle.output.specs.Output.{ofText, rendered}
 use Rattle.text.proofs.Decimal.{length-decimal-le}

@@ -1,5 +1,4 @@
--- The output in a lent buffer: one law for each loop and each `return` of the functions that put bytes, and what the buffer holds where it has room
--- (`add-fits`). Assumes nothing.
+-- The output in a lent buffer: one law for each loop and each `return` of the functions that put bytes. Assumes nothing.
 use Prim.Native.Nat.{ℕ, zero, suc, _+_, _-_, _/_, _%_, _≤_, _<_, min}
 use native.Mathlib.Numerals.{add-one}
 use native.Mathlib.Omega.{arith}

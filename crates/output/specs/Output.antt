@@ -6,7 +6,7 @@ use lib.Dec.{leb, ltb}
 use lib.ListN.{length, take, drop, set}
 use Rattle.trace.specs.Outcome.{Reply, says, refused, Verdict, clean, race}
 use Rattle.text.specs.Form.{decimal}
-use Rattle.text.specs.Translation.{MAX-TEXT-EVENTS}
+use Rattle.text.specs.Decided.{MAX-TEXT-EVENTS}
 
 -- `clean`, `race`, `refused`
 abbrev pub CLEAN : List ℕ

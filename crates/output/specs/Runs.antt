@@ -3,14 +3,8 @@ use Prim.Native.Nat.{ℕ}
 use mathlib.Core.Path.{_≡_, refl}
 use mathlib.Core.List.{List, [], _∷_}
 use lib.ListN.{replicate}
-use Rattle.trace.specs.Trace.{traceOf, isKind, isAccess}
-use Rattle.trace.specs.Race.{conflicting}
-use Rattle.trace.specs.Line.{row, start, isEmpty, isHead, isMember, isLeftOf, putLeftOf, remove, forked, joined, halted, haltOperand, stepByKind, step}
-use Rattle.trace.specs.Line.{stepAfter, lineAfter}
-use Rattle.trace.specs.Graph.{isPassed, graphEvents}
-use Rattle.trace.specs.Search.{someBelow, leastBelow, next?, child?, join?, arc?, chain?, reach?, conflict?, race?}
-use Rattle.trace.specs.Outcome.{says, refused, clean, orElse, raceWith, partner, failureAt, firstFailure, atEnd, orAtEnd, judgement, inD?}
-use Rattle.trace.specs.Outcome.{sizes, orderRoom, cleared, Outcome, firstOrder, secondOrder, judgeChecked, judgeOutcome}
+use Rattle.trace.specs.Outcome.{says, refused, clean, Outcome, judgeOutcome}
+use Rattle.trace.proofs.Table.{computed}
 use Rattle.text.specs.Form.{decimal}
 use Rattle.output.specs.Output.{orderLines, output}
 
@@ -29,10 +23,7 @@ exampleOutput =
 
 -- "the whole output is"
 pub example-output : output (judged .answer) 4 (judged .first) (judged .second) ≡ exampleOutput
-unfolding output orderLines decimal judgeOutcome judgeChecked orderRoom sizes row traceOf graphEvents isPassed lineAfter stepAfter
-    step stepByKind start isKind isEmpty isHead isMember isLeftOf putLeftOf remove forked joined halted isAccess haltOperand
-    judgement orAtEnd atEnd firstFailure orElse failureAt raceWith partner leastBelow race? conflict? conflicting reach? chain?
-    arc? next? child? join? someBelow firstOrder secondOrder inD? cleared
+unfolding output orderLines decimal computed
 example-output = refl
 
 -- `clean 0` and `refused 14 3`, with their line feeds.

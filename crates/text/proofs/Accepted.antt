@@ -1,19 +1,21 @@
 -- AN ACCEPTED TEXT has at most 2,048 events (`translation-at-most`). Each of the three slices then holds its part of the events from its start on,
 -- and the cells past them are as they were (`slices-after`). Assumes nothing.
 use Prim.Native.Nat.{ℕ, suc, _+_, _-_, _≤_}
-use native.Mathlib.Numerals.{add-one}
 use native.Mathlib.Omega.{arith}
-use mathlib.Core.Path.{_≡_, refl, _∙_}
-use mathlib.Core.List.{List, [], _∷_, _++_, map}
+use mathlib.Core.Path.{_≡_}
+use mathlib.Core.List.{List, [], _∷_, _++_}
 use lib.Dec.{ltb}
-use lib.ListN.{length, drop, set, length-append, length-map}
-use lib.Seq.{sets, sets-eq}
+use lib.ListN.{length, length-append}
 use borrow.Author.Tests.{ltb-false}
+use Rattle.trace.specs.Trace.{Event}
 use Rattle.trace.specs.Outcome.{Reply, says, refused}
+use Rattle.trace.specs.Slices.{Slices}
 use Rattle.trace.proofs.Tests.{by-test}
+use Rattle.trace.proofs.Slices.{After, slices-hold}
 use Rattle.text.specs.Reading.{Parsed, ends, malformed, line-then, parse}
-use Rattle.text.specs.Translation.{Event, eventsOf, stackAfter, MAX-TEXT-EVENTS, prepend, eventsFrom, FIRST-LINE, translation, Slices}
-use Rattle.text.specs.Translation.{store, storeAll, translated}
+use Rattle.text.specs.Events.{eventsOf, stackAfter}
+use Rattle.text.specs.Decided.{MAX-TEXT-EVENTS}
+use Rattle.text.specs.Translation.{prepend, eventsFrom, FIRST-LINE, translation, translated}
 
 -- ---- the number of events
 
@@ -44,40 +46,17 @@ translation-at-most text es e = count-of (rw e at (events-at-most (parse text) F
 
 -- ---- the slices
 
--- One slice of the three, and the part of an event that it holds.
-module _ (slice : Slices → List ℕ) (part : Event → ℕ)
-    (stores : (b : Slices) (at : ℕ) (e : Event) → slice (store b at e) ≡ set (slice b) at (part e)) where
-  slice-sets : (b : Slices) (at : ℕ) (es : List Event) → slice (storeAll b at es) ≡ sets (slice b) at (map part es)
-  slice-sets b at [] = refl
-  slice-sets b at (e ∷ es) = slice-sets (store b at e) (at + 1) es ∙ rw (add-one, stores b at e)
-
-  slice-after : (b : Slices) (es : List Event) → length es ≤ length (slice b) → slice (storeAll b 0 es) ≡ map part es ++ drop (length es) (slice b)
-  slice-after b es h =
-      let k = length-map es part in
-      let e : 0 + length (map part es) ≡ length es = omega arith in
-      slice-sets b 0 es ∙ (sets-eq (map part es) (slice b) 0 (omega arith) ∙ rw e)
-
 -- The slices have the size that `translate` takes.
 pub record Sized (b : Slices) : Type 0 where
   pub kinds : length (b .kinds) ≡ MAX-TEXT-EVENTS
   pub tasks : length (b .tasks) ≡ MAX-TEXT-EVENTS
   pub operands : length (b .operands) ≡ MAX-TEXT-EVENTS
 
-pub record After (b : Slices) (es : List Event) (after : Slices) : Type 0 where
-  pub kinds : after .kinds ≡ map (λ e. e .kind) es ++ drop (length es) (b .kinds)
-  pub tasks : after .tasks ≡ map (λ e. e .task) es ++ drop (length es) (b .tasks)
-  pub operands : after .operands ≡ map (λ e. e .operand) es ++ drop (length es) (b .operands)
-
 pub slices-after : (text : List ℕ) (b : Slices) (es : List Event) → Sized b → translation text ≡ says es → After b es (translated text b .slices)
-unfolding store translated
+unfolding translated
 slices-after text b es r e =
     let n = translation-at-most text es e in
     let k = r .kinds in
     let t = r .tasks in
     let o = r .operands in
-    rw e
-    (record {
-      kinds = slice-after (λ z. z .kinds) (λ z. z .kind) (λ z at x. refl) b es (omega arith);
-      tasks = slice-after (λ z. z .tasks) (λ z. z .task) (λ z at x. refl) b es (omega arith);
-      operands = slice-after (λ z. z .operands) (λ z. z .operand) (λ z at x. refl) b es (omega arith);
-    })
+    rw e (slices-hold b es (record { kinds = omega arith; tasks = omega arith; operands = omega arith }))

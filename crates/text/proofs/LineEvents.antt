@@ -1,22 +1,18 @@
 -- The events of one line: the rows of `add_line`. Assumes nothing.
-use Prim.Native.Nat.{ℕ, suc, _+_, _-_, _≤_, _<_}
+use Prim.Native.Nat.{ℕ, _+_, _-_, _≤_, _<_}
 use native.Mathlib.Omega.{arith}
 use mathlib.Core.Path.{_≡_, _∙_}
-use mathlib.Core.List.{List, [], _∷_, _++_}
+use mathlib.Core.List.{List, [], _∷_}
 use mathlib.Core.Option.{none, some}
 use lib.ListN.{length}
 use borrow.Author.Tests.{lt-ltb, le-ltb}
-use Rattle.text.specs.Translation.{Event, halts, implied, kindOf, eventOf, eventsOf, MAX-TEXT-EVENTS, pushed, stackAfter, Slices}
-use Rattle.text.specs.Translation.{store, storeAll}
+use Rattle.trace.specs.Slices.{Slices, store, storeAll}
+use Rattle.trace.proofs.Slices.{storeAll-append}
+use Rattle.text.specs.Events.{halts, implied, kindOf, eventOf, eventsOf, pushed, stackAfter}
+use Rattle.text.specs.Decided.{MAX-TEXT-EVENTS}
 use Rattle.text.specs.Answers.{tasksOf, added}
 use Rattle.text.specs.declared.cursor.Line.{Line}
 use Rattle.text.proofs.StackLaws.{implied-le, length-halts, length-events, length-tasks, drop-tasks}
-
--- Events stored one after the other.
-pub storeAll-append : (b : Slices) (n : ℕ) (es fs : List Event) → storeAll b n (es ++ fs) ≡ storeAll (storeAll b n es) (n + length es) fs
-storeAll-append b n [] fs = let e : n + 0 ≡ n = omega arith in rw e
-storeAll-append b n (e ∷ es) fs =
-    let q : n + suc (length es) ≡ n + 1 + length es = omega arith in rw (q, storeAll-append (store b n e) (n + 1) es fs)
 
 module _ (l : Line) (cells : List ℕ) (depth n base : ℕ) (b : Slices) (left : base ≡ depth - implied (l .task) (tasksOf cells depth)) where
   count : length (eventsOf (tasksOf cells depth) l) ≡ depth - base + 1

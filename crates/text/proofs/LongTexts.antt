@@ -9,10 +9,13 @@ use lib.Dec.{ltb}
 use lib.ListN.{length, take, drop, take-append-drop}
 use lib.Seq.{take-append-add}
 use borrow.Author.Tests.{ltb-false}
+use Rattle.trace.specs.Slices.{Slices}
 use Rattle.trace.proofs.Tests.{by-test}
 use Rattle.text.specs.Form.{print}
 use Rattle.text.specs.Reading.{line, parse}
-use Rattle.text.specs.Translation.{MAX-TEXT-EVENTS, eventsOf, stackAfter, eventsFrom, FIRST-LINE, translation, Slices, translated}
+use Rattle.text.specs.Events.{eventsOf, stackAfter}
+use Rattle.text.specs.Decided.{MAX-TEXT-EVENTS}
+use Rattle.text.specs.Translation.{eventsFrom, FIRST-LINE, translation, translated}
 use Rattle.text.specs.declared.cursor.Line.{Line}
 use Rattle.text.proofs.Tokens.{by-token}
 use Rattle.text.proofs.Lines.{line-print, line-printed, length-print}

@@ -9,7 +9,7 @@ use lib.Dec.{eqb}
 use lib.ListN.{length, set, drop, length-append, length-drop}
 use lib.Seq.{getD-set-same, getD-set-other}
 use Rattle.trace.proofs.Tests.{by-test}
-use Rattle.text.specs.Translation.{halts, above, implied, eventsOf, pushed, stackAfter}
+use Rattle.text.specs.Events.{halts, above, implied, eventsOf, pushed, stackAfter}
 use Rattle.text.specs.Answers.{tasksOf}
 use Rattle.text.specs.declared.cursor.Line.{Line}
 use Rattle.text.specs.declared.cursor.Operation.{Operation}

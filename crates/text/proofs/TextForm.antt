@@ -1,21 +1,24 @@
--- THE TEXT FORM: the reader accepts exactly the printed lines, and the refused line is the first that no line prints. `parse-lines` and
--- `parse-no-line` say what is read of every text of the form, and of every text that leaves it; `parse-reads` that there is no other text.
--- `translation-decided` and `decided-translation` say the same of the answers: exactly the texts of the form with at most 2,048 events make events;
--- the others are refused by 14 at the first line that is not of the form, or by 15 at the line with which the events pass 2,048, whichever is first.
--- `translation-of-form` says that no text of the form is refused by 14. Assumes nothing.
+-- THE TEXT FORM: what the reader finds in a text is what the text decides. `parse-lines` and `parse-no-line` say what is read of every text of the form,
+-- and of every text that leaves it; `parse-reads` that there is no other text. `translated-decided` says so of the outcome, and carries the clause *form*
+-- of `translate`; by `decided-by-unique` a text decides one outcome and no other. `translation-of-form` says that no text of the form is refused by 14.
+-- Assumes nothing.
 use Prim.Native.Nat.{ℕ, zero, suc, _+_, _≤_, _<_}
 use native.Mathlib.Omega.{arith}
 use mathlib.Core.Path.{_≡_, refl, sym, ap, _∙_}
-use mathlib.Core.List.{List, [], _∷_, _++_, append-assoc, append-nil}
+use mathlib.Core.List.{List, [], _∷_, _++_, append-assoc}
 use mathlib.Core.Option.{none, some}
 use lib.Dec.{ltb}
 use lib.ListN.{length, length-append}
 use borrow.Author.Tests.{ltb-true, ltb-false, lt-ltb, le-ltb}
+use Rattle.trace.specs.Trace.{Event}
 use Rattle.trace.specs.Outcome.{Reply, says, refused}
+use Rattle.trace.specs.Slices.{Slices}
 use Rattle.trace.proofs.Tests.{by-test}
-use Rattle.text.specs.Form.{print, printAll, InRange, AllInRange, no-line, one-more, OfForm, BeginsWithNoLine}
+use Rattle.text.specs.Form.{print, printAll, InRange, AllInRange, no-line, one-more, LinesBefore, OfForm, BeginsWithNoLine}
+use Rattle.text.specs.Events.{eventsOf, stackAfter, eventsOfAll}
+use Rattle.text.specs.Decided.{MAX-TEXT-EVENTS, Decided, accepted, not-of-form, too-many, Translated, leaving, DecidedBy}
 use Rattle.text.specs.Reading.{line, Parsed, ends, malformed, line-then, parse}
-use Rattle.text.specs.Translation.{Event, eventsOf, stackAfter, eventsOfAll, MAX-TEXT-EVENTS, eventsFrom, FIRST-LINE, translation}
+use Rattle.text.specs.Translation.{eventsFrom, FIRST-LINE, translation, translated}
 use Rattle.text.specs.declared.cursor.Line.{Line}
 use Rattle.text.proofs.Tokens.{by-token}
 use Rattle.text.proofs.Lines.{line-print, line-printed}
@@ -44,11 +47,10 @@ parse-no-line rest b =
 
 -- ---- what is read was printed
 
--- What the reader says of a text: lines that it is the print of; or lines that it begins with, before bytes that begin with no line.
+-- What the reader says of a text: the lines that it is the print of; or those that it begins with, before bytes that begin with no line.
 pub data Reads (text : List ℕ) : Parsed → Type 0 where
-  whole : (lines : List Line) → AllInRange lines → text ≡ printAll lines → Reads text (linesThen lines ends)
-  broken : (lines : List Line) → AllInRange lines → (rest : List ℕ) → BeginsWithNoLine rest → text ≡ printAll lines ++ rest
-      → Reads text (linesThen lines malformed)
+  whole : (all : OfForm text) → Reads text (linesThen (all .lines) ends)
+  broken : (rest : List ℕ) (before : LinesBefore text rest) → BeginsWithNoLine rest → Reads text (linesThen (before .lines) malformed)
 
 begins-with-no-line : (s : List ℕ) → (s ≡ [] → ⊥) → line s ≡ none → BeginsWithNoLine s
 begins-with-no-line s h e =
@@ -61,17 +63,30 @@ begins-with-no-line s h e =
           omega arith;
     }
 
+-- Nothing stands before a text.
+abbrev none-before : (text : List ℕ) → LinesBefore text text
+none-before text = record { lines = []; in-range = no-line; printed = refl }
+
+-- One more line stands before the others.
+abbrev line-before : (l : Line) → InRange l → {s rest : List ℕ} → LinesBefore s rest → LinesBefore (print l ++ s) rest
+line-before l r {s} {rest} before =
+    record {
+      lines = l ∷ before .lines;
+      in-range = one-more r (before .in-range);
+      printed = rw (before .printed) (sym (append-assoc (print l) (printAll (before .lines)) rest));
+    }
+
 reads-line : (l : Line) → InRange l → {s : List ℕ} {p : Parsed} → Reads s p → Reads (print l ++ s) (line-then l p)
-reads-line l r (whole lines rs e) = whole (l ∷ lines) (one-more r rs) (rw e)
-reads-line l r (broken lines rs rest b e) = broken (l ∷ lines) (one-more r rs) rest b (rw (e, append-assoc))
+reads-line l r (whole all) = whole (line-before l r all)
+reads-line l r (broken rest before b) = broken rest (line-before l r before) b
 
 reads-within : (n : ℕ) (s : List ℕ) → length s < n → Reads s (parse s)
 reads-within zero s h = absurd (omega arith)
-reads-within (suc n) [] h = rw parse-nil (whole [] no-line refl)
+reads-within (suc n) [] h = rw parse-nil (whole (none-before []))
 reads-within (suc n) (b ∷ s) h =
     let some-left : b ∷ s ≡ [] → ⊥ = λ e. let z : _≡_ {A = ℕ} 0 1 = cc in omega arith in
     by-token (line (b ∷ s))
-    (λ e. rw (parse-none (b ∷ s) some-left e) (broken [] no-line (b ∷ s) (begins-with-no-line (b ∷ s) some-left e) refl))
+    (λ e. rw (parse-none (b ∷ s) some-left e) (broken (b ∷ s) (none-before (b ∷ s)) (begins-with-no-line (b ∷ s) some-left e)))
     (λ l e. let p = line-printed (b ∷ s) (l .0) (l .1) e in
     let i = length-after-line (b ∷ s) (l .0) (l .1) e in
     rw (parse-line (b ∷ s) (l .0) (l .1) e, p .bytes)
@@ -85,26 +100,23 @@ parse-reads text = reads-within (suc (length text)) text (omega arith)
 -- Lines after `count` events: all their events fit; or they begin with lines whose events fit, and a line with which they do not.
 data Counted (count : ℕ) (stack : List ℕ) (lines : List Line) : Type 0 where
   fit : count + length (eventsOfAll stack lines) ≤ MAX-TEXT-EVENTS → Counted count stack lines
-  pass : (before : List Line) → AllInRange before → (l : Line) → InRange l → (rest : List ℕ)
-      → printAll lines ≡ printAll before ++ (print l ++ rest)
-      → count + length (eventsOfAll stack before) ≤ MAX-TEXT-EVENTS
-      → MAX-TEXT-EVENTS < count + length (eventsOfAll stack (before ++ (l ∷ [])))
+  pass : (l : Line) → InRange l → (rest : List ℕ) (before : LinesBefore (printAll lines) (print l ++ rest))
+      → count + length (eventsOfAll stack (before .lines)) ≤ MAX-TEXT-EVENTS
+      → MAX-TEXT-EVENTS < count + length (eventsOfAll stack (before .lines ++ (l ∷ [])))
       → Counted count stack lines
 
 counted-line : {count : ℕ} {stack : List ℕ} {lines : List Line} (l : Line) → InRange l
     → Counted (count + length (eventsOf stack l)) (stackAfter stack l) lines → Counted count stack (l ∷ lines)
 counted-line l r (fit h) = fit (simp length-append (omega arith))
-counted-line l r (pass before rs m q rest e h k) =
-    let f : print l ++ (printAll before ++ (print m ++ rest)) ≡ printAll (l ∷ before) ++ (print m ++ rest)
-    = sym (append-assoc (print l) (printAll before) (print m ++ rest)) in
-    pass (l ∷ before) (one-more r rs) m q rest (rw e f) (simp length-append (omega arith)) (simp length-append (omega arith))
+counted-line l r (pass m q rest before h k) =
+    pass m q rest (line-before l r before) (simp length-append (omega arith)) (simp length-append (omega arith))
 
 counted : {lines : List Line} → AllInRange lines → (count : ℕ) (stack : List ℕ) → count ≤ MAX-TEXT-EVENTS → Counted count stack lines
 counted no-line count stack h = fit (omega arith)
 counted (one-more {l} {lines} r rs) count stack h =
     by-test (ltb MAX-TEXT-EVENTS (count + length (eventsOf stack l)))
     (λ e. let k = ltb-true MAX-TEXT-EVENTS (count + length (eventsOf stack l)) e in
-    pass [] no-line l r (printAll lines) refl (omega arith) (simp length-append (omega arith)))
+    pass l r (printAll lines) (none-before (print l ++ printAll lines)) (omega arith) (simp length-append (omega arith)))
     (λ e. counted-line l r
     (counted rs (count + length (eventsOf stack l)) (stackAfter stack l) (ltb-false MAX-TEXT-EVENTS (count + length (eventsOf stack l)) e)))
 
@@ -152,36 +164,29 @@ pass-line (x ∷ lines) l p number count stack h k =
       f,
     )
 
--- WHAT EACH ANSWER SAYS OF THE TEXT: the events of all its lines, at most 2,048; 14 at the first line that is not of the form, after lines that make at
--- most 2,048 events; 15 at the line with which the events pass 2,048. The stack begins with task 0 alone.
-pub data Decided (text : List ℕ) : Reply (List Event) → Type 0 where
-  accepted : (lines : List Line) → AllInRange lines → text ≡ printAll lines
-      → length (eventsOfAll (0 ∷ []) lines) ≤ MAX-TEXT-EVENTS
-      → Decided text (says (eventsOfAll (0 ∷ []) lines))
-  first-bad-line : (lines : List Line) → AllInRange lines → (rest : List ℕ) → BeginsWithNoLine rest → text ≡ printAll lines ++ rest
-      → length (eventsOfAll (0 ∷ []) lines) ≤ MAX-TEXT-EVENTS
-      → Decided text (refused 14 (length lines))
-  over : (lines : List Line) → AllInRange lines → (l : Line) → InRange l → (rest : List ℕ) → text ≡ printAll lines ++ (print l ++ rest)
-      → length (eventsOfAll (0 ∷ []) lines) ≤ MAX-TEXT-EVENTS
-      → MAX-TEXT-EVENTS < length (eventsOfAll (0 ∷ []) (lines ++ (l ∷ [])))
-      → Decided text (refused 15 (length lines))
-
 -- Each case gives the translation. So the cases exclude each other, and no text has one of them at two lines.
 pub decided-translation : {text : List ℕ} {reply : Reply (List Event)} → Decided text reply → translation text ≡ reply
 unfolding translation
-decided-translation {text} (accepted lines rs e h) =
-    let p : parse text ≡ linesThen lines ends
-    = ap parse (e ∙ sym (append-nil (printAll lines))) ∙ (parse-lines rs [] ∙ rw parse-nil) in
-    rw p (fit-ends lines FIRST-LINE 0 (0 ∷ []) (omega arith))
-decided-translation {text} (first-bad-line lines rs rest b e h) =
-    let p : parse text ≡ linesThen lines malformed = ap parse e ∙ (parse-lines rs rest ∙ rw (parse-no-line rest b)) in
-    let z : FIRST-LINE + length lines ≡ length lines = omega arith in
-    rw p (rw z at (fit-malformed lines FIRST-LINE 0 (0 ∷ []) (omega arith)))
-decided-translation {text} (over lines rs l r rest e h k) =
-    let q : parse (print l ++ rest) ≡ line-then l (parse rest) = parse-line (print l ++ rest) l rest (line-print l rest r) in
-    let p : parse text ≡ linesThen lines (line-then l (parse rest)) = ap parse e ∙ (parse-lines rs (print l ++ rest) ∙ rw q) in
-    let z : FIRST-LINE + length lines ≡ length lines = omega arith in
-    rw p (rw z at (pass-line lines l (parse rest) FIRST-LINE 0 (0 ∷ []) (omega arith) (omega arith)))
+decided-translation (accepted all h) =
+    rw (all .printed, parse-lines (all .in-range) [], parse-nil) (fit-ends (all .lines) FIRST-LINE 0 (0 ∷ []) (omega arith))
+decided-translation (not-of-form rest before h b) =
+    let z : FIRST-LINE + length (before .lines) ≡ length (before .lines) = omega arith in
+    rw (before .printed, parse-lines (before .in-range) rest, parse-no-line rest b)
+    (rw z at (fit-malformed (before .lines) FIRST-LINE 0 (0 ∷ []) (omega arith)))
+decided-translation (too-many l rest before h r k) =
+    let z : FIRST-LINE + length (before .lines) ≡ length (before .lines) = omega arith in
+    rw (before .printed, parse-lines (before .in-range) (print l ++ rest), parse-line (print l ++ rest) l rest (line-print l rest r))
+    (rw z at (pass-line (before .lines) l (parse rest) FIRST-LINE 0 (0 ∷ []) (omega arith) (omega arith)))
+
+-- The lines before one of the lines that a text begins with.
+abbrev before-line : {text more : List ℕ} (before : LinesBefore text more) (l : Line) (rest : List ℕ)
+    → LinesBefore (printAll (before .lines)) (print l ++ rest) → LinesBefore text (print l ++ (rest ++ more))
+before-line before l rest first =
+    record {
+      lines = first .lines;
+      in-range = first .in-range;
+      printed = before .printed ∙ rw (first .printed) (simp append-assoc refl);
+    }
 
 -- Every text has one of the cases.
 pub translation-decided : (text : List ℕ) → Decided text (translation text)
@@ -190,31 +195,39 @@ translation-decided text = from-reads (parse-reads text)
     from : {reply : Reply (List Event)} → Decided text reply → Decided text (translation text)
     from d = rw (decided-translation d) d
 
-    from-whole : (lines : List Line) → AllInRange lines → text ≡ printAll lines → Counted 0 (0 ∷ []) lines → Decided text (translation text)
-    from-whole lines rs e (fit h) = from (accepted lines rs e (omega arith))
-    from-whole lines rs e (pass before bs l r rest f h k) = from (over before bs l r rest (e ∙ f) (omega arith) (omega arith))
-
-    from-broken : (lines : List Line) → AllInRange lines → (rest : List ℕ) → BeginsWithNoLine rest → text ≡ printAll lines ++ rest
-        → Counted 0 (0 ∷ []) lines → Decided text (translation text)
-    from-broken lines rs rest b e (fit h) = from (first-bad-line lines rs rest b e (omega arith))
-    from-broken lines rs rest b e (pass before bs l r more f h k) =
-        from (over before bs l r (more ++ rest) (e ∙ rw f (simp append-assoc refl)) (omega arith) (omega arith))
+    over : {more : List ℕ} (before : LinesBefore text more) → Counted 0 (0 ∷ []) (before .lines)
+        → (length (eventsOfAll (0 ∷ []) (before .lines)) ≤ MAX-TEXT-EVENTS → Decided text (translation text)) → Decided text (translation text)
+    over before (fit h) next = next (omega arith)
+    over {more} before (pass l r rest first h k) next =
+        from (too-many l (rest ++ more) (before-line before l rest first) (omega arith) r (omega arith))
 
     from-reads : {p : Parsed} → Reads text p → Decided text (translation text)
-    from-reads (whole lines rs e) = from-whole lines rs e (counted rs 0 (0 ∷ []) (omega arith))
-    from-reads (broken lines rs rest b e) = from-broken lines rs rest b e (counted rs 0 (0 ∷ []) (omega arith))
+    from-reads (whole all) = over all (counted (all .in-range) 0 (0 ∷ []) (omega arith)) (λ h. from (accepted all h))
+    from-reads (broken rest before b) =
+        over before (counted (before .in-range) 0 (0 ∷ []) (omega arith)) (λ h. from (not-of-form rest before h b))
+
+-- A text decides one outcome, which the translation gives,
+pub translated-decided : (text : List ℕ) (b : Slices) → DecidedBy text b (translated text b)
+unfolding translated
+translated-decided text b = record { reply = translation text; decided = translation-decided text; left = refl }
+
+-- and no other.
+pub decided-by-unique : {text : List ℕ} {b : Slices} {o₁ o₂ : Translated} → DecidedBy text b o₁ → DecidedBy text b o₂ → o₁ ≡ o₂
+decided-by-unique {text} {b} d₁ d₂ =
+    d₁ .left ∙ (ap (leaving b) (sym (decided-translation (d₁ .decided)) ∙ decided-translation (d₂ .decided)) ∙ sym (d₂ .left))
 
 -- Events, or refused 15: an answer to lines that are all of the form.
 pub data FormedAnswer : Reply (List Event) → Type 0 where
   events : {es : List Event} → FormedAnswer (says es)
-  too-many : {number : ℕ} → FormedAnswer (refused 15 number)
+  over-limit : {number : ℕ} → FormedAnswer (refused 15 number)
 
 pub translation-of-form : (text : List ℕ) → OfForm text → FormedAnswer (translation text)
-translation-of-form text f = from-count (counted (f .in-range) 0 (0 ∷ []) (omega arith))
+translation-of-form text all = from-count (counted (all .in-range) 0 (0 ∷ []) (omega arith))
   where
     from : {reply : Reply (List Event)} → Decided text reply → FormedAnswer reply → FormedAnswer (translation text)
     from d a = rw (decided-translation d) a
 
-    from-count : Counted 0 (0 ∷ []) (f .lines) → FormedAnswer (translation text)
-    from-count (fit h) = from (accepted (f .lines) (f .in-range) (f .printed) (omega arith)) events
-    from-count (pass before bs l r rest e h k) = from (over before bs l r rest (f .printed ∙ e) (omega arith) (omega arith)) too-many
+    from-count : Counted 0 (0 ∷ []) (all .lines) → FormedAnswer (translation text)
+    from-count (fit h) = from (accepted all (omega arith)) events
+    from-count (pass l r rest first h k) =
+        from (too-many l (rest ++ []) (before-line all l rest first) (omega arith) r (omega arith)) over-limit

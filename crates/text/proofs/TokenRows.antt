@@ -57,29 +57,24 @@ module _ (text before after s : List ℕ) (w : WordToken) (read : afterWord text
   field-before e = let q : word before s ≡ none = cc in rw q
 
   module _ (c : Cursor) (past : w ≡ Matched c) (n : NumberToken) (counted : afterNumber text n ≡ number (drop (c .at) text)) where
+    past-before : word before s ≡ some (drop (c .at) text)
+    past-before = cc
+
     pub field-number : n ≡ NoNumber → none ≡ field before after s
     unfolding field
-    field-number e =
-        let q : word before s ≡ some (drop (c .at) text) = cc in
-        let p : number (drop (c .at) text) ≡ none = cc in
-        rw (q, p)
+    field-number e = let q : number (drop (c .at) text) ≡ none = cc in rw (past-before, q)
 
     module _ (v : ℕ) (d : Cursor) (is : n ≡ Value v d) (u : WordToken) (closed : afterWord text u ≡ word after (drop (d .at) text)) where
+      past-number : number (drop (c .at) text) ≡ some (v, drop (d .at) text)
+      past-number = cc
+
       pub field-after : u ≡ Mismatch → none ≡ field before after s
       unfolding field
-      field-after e =
-          let q : word before s ≡ some (drop (c .at) text) = cc in
-          let p : number (drop (c .at) text) ≡ some (v, drop (d .at) text) = cc in
-          let o : word after (drop (d .at) text) ≡ none = cc in
-          rw (q, p, o)
+      field-after e = let q : word after (drop (d .at) text) ≡ none = cc in rw (past-before, past-number, q)
 
       pub field-whole : (f : Cursor) → u ≡ Matched f → some (v, drop (f .at) text) ≡ field before after s
       unfolding field
-      field-whole f e =
-          let q : word before s ≡ some (drop (c .at) text) = cc in
-          let p : number (drop (c .at) text) ≡ some (v, drop (d .at) text) = cc in
-          let o : word after (drop (d .at) text) ≡ some (drop (f .at) text) = cc in
-          rw (q, p, o)
+      field-whole f e = let q : word after (drop (d .at) text) ≡ some (drop (f .at) text) = cc in rw (past-before, past-number, q)
 
 -- ---- `Cursor::operation`: the words that an operation begins with, tried in turn
 
@@ -88,36 +83,29 @@ module _ (text s : List ℕ) (r : WordToken) (read : afterWord text r ≡ word (
   operation-read c e = let q : word (opening Read) s ≡ some (drop (c .at) text) = cc in rw q
 
   module _ (no-read : r ≡ Mismatch) (w : WordToken) (write : afterWord text w ≡ word (opening Write) s) where
+    not-read : word (opening Read) s ≡ none
+    not-read = cc
+
     pub operation-write : (c : Cursor) → w ≡ Matched c → some (Write, drop (c .at) text) ≡ operation s
-    operation-write c e =
-        let p : word (opening Read) s ≡ none = cc in
-        let q : word (opening Write) s ≡ some (drop (c .at) text) = cc in
-        rw (p, q)
+    operation-write c e = let q : word (opening Write) s ≡ some (drop (c .at) text) = cc in rw (not-read, q)
 
     module _ (no-write : w ≡ Mismatch) (f : WordToken) (fork : afterWord text f ≡ word (opening Fork) s) where
+      not-write : word (opening Write) s ≡ none
+      not-write = cc
+
       pub operation-fork : (c : Cursor) → f ≡ Matched c → some (Fork, drop (c .at) text) ≡ operation s
-      operation-fork c e =
-          let p : word (opening Read) s ≡ none = cc in
-          let o : word (opening Write) s ≡ none = cc in
-          let q : word (opening Fork) s ≡ some (drop (c .at) text) = cc in
-          rw (p, o, q)
+      operation-fork c e = let q : word (opening Fork) s ≡ some (drop (c .at) text) = cc in rw (not-read, not-write, q)
 
       module _ (no-fork : f ≡ Mismatch) (j : WordToken) (join : afterWord text j ≡ word (opening Join) s) where
+        not-fork : word (opening Fork) s ≡ none
+        not-fork = cc
+
         pub operation-join : (c : Cursor) → j ≡ Matched c → some (Join, drop (c .at) text) ≡ operation s
         operation-join c e =
-            let p : word (opening Read) s ≡ none = cc in
-            let o : word (opening Write) s ≡ none = cc in
-            let n : word (opening Fork) s ≡ none = cc in
-            let q : word (opening Join) s ≡ some (drop (c .at) text) = cc in
-            rw (p, o, n, q)
+            let q : word (opening Join) s ≡ some (drop (c .at) text) = cc in rw (not-read, not-write, not-fork, q)
 
         pub operation-none : j ≡ Mismatch → none ≡ operation s
-        operation-none e =
-            let p : word (opening Read) s ≡ none = cc in
-            let o : word (opening Write) s ≡ none = cc in
-            let n : word (opening Fork) s ≡ none = cc in
-            let q : word (opening Join) s ≡ none = cc in
-            rw (p, o, n, q)
+        operation-none e = let q : word (opening Join) s ≡ none = cc in rw (not-read, not-write, not-fork, q)
 
 -- ---- `Cursor::line`
 
@@ -128,40 +116,35 @@ module _ (text s : List ℕ) (a : NumberToken) (first : afterNumber text a ≡ f
 
   module _ (task : ℕ) (c : Cursor) (a-is : a ≡ Value task c) (o : OperationToken)
       (second : afterOperation text o ≡ operation (drop (c .at) text)) where
+    past-task : field (84 ∷ []) (124 ∷ []) s ≡ some (task, drop (c .at) text)
+    past-task = cc
+
     pub line-operation : o ≡ NoOperation → none ≡ line s
     unfolding line
-    line-operation e =
-        let p : field (84 ∷ []) (124 ∷ []) s ≡ some (task, drop (c .at) text) = cc in
-        let q : operation (drop (c .at) text) ≡ none = cc in
-        rw (p, q)
+    line-operation e = let q : operation (drop (c .at) text) ≡ none = cc in rw (past-task, q)
 
     module _ (op : Operation) (d : Cursor) (o-is : o ≡ Known op d) (b : NumberToken)
         (third : afterNumber text b ≡ field [] (41 ∷ 124 ∷ []) (drop (d .at) text)) where
+      past-opening : operation (drop (c .at) text) ≡ some (op, drop (d .at) text)
+      past-opening = cc
+
       pub line-operand : b ≡ NoNumber → none ≡ line s
       unfolding line
-      line-operand e =
-          let p : field (84 ∷ []) (124 ∷ []) s ≡ some (task, drop (c .at) text) = cc in
-          let q : operation (drop (c .at) text) ≡ some (op, drop (d .at) text) = cc in
-          let r : field [] (41 ∷ 124 ∷ []) (drop (d .at) text) ≡ none = cc in
-          rw (p, q, r)
+      line-operand e = let q : field [] (41 ∷ 124 ∷ []) (drop (d .at) text) ≡ none = cc in rw (past-task, past-opening, q)
 
       module _ (operand : ℕ) (f : Cursor) (b-is : b ≡ Value operand f) (n : NumberToken)
           (fourth : afterNumber text n ≡ field [] (10 ∷ []) (drop (f .at) text)) where
+        past-operand : field [] (41 ∷ 124 ∷ []) (drop (d .at) text) ≡ some (operand, drop (f .at) text)
+        past-operand = cc
+
         pub line-source : n ≡ NoNumber → none ≡ line s
         unfolding line
         line-source e =
-            let p : field (84 ∷ []) (124 ∷ []) s ≡ some (task, drop (c .at) text) = cc in
-            let q : operation (drop (c .at) text) ≡ some (op, drop (d .at) text) = cc in
-            let r : field [] (41 ∷ 124 ∷ []) (drop (d .at) text) ≡ some (operand, drop (f .at) text) = cc in
-            let t : field [] (10 ∷ []) (drop (f .at) text) ≡ none = cc in
-            rw (p, q, r, t)
+            let q : field [] (10 ∷ []) (drop (f .at) text) ≡ none = cc in rw (past-task, past-opening, past-operand, q)
 
         pub line-whole : (source : ℕ) (g : Cursor) → n ≡ Value source g
             → some (record { task = task; operation = op; operand = operand; source = source }, drop (g .at) text) ≡ line s
         unfolding line
         line-whole source g e =
-            let p : field (84 ∷ []) (124 ∷ []) s ≡ some (task, drop (c .at) text) = cc in
-            let q : operation (drop (c .at) text) ≡ some (op, drop (d .at) text) = cc in
-            let r : field [] (41 ∷ 124 ∷ []) (drop (d .at) text) ≡ some (operand, drop (f .at) text) = cc in
-            let t : field [] (10 ∷ []) (drop (f .at) text) ≡ some (source, drop (g .at) text) = cc in
-            rw (p, q, r, t)
+            let q : field [] (10 ∷ []) (drop (f .at) text) ≡ some (source, drop (g .at) text) = cc in
+            rw (past-task, past-opening, past-operand, q)

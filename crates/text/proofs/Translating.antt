@@ -10,12 +10,16 @@ use mathlib.Core.Option.{none, some}
 use lib.Dec.{ltb}
 use lib.ListN.{length, getD, drop, length-append, length-drop, drop-of-length-le}
 use borrow.Author.Tests.{ltb-false}
+use Rattle.trace.specs.Trace.{Event}
 use Rattle.trace.specs.Outcome.{Reply, says, refused}
+use Rattle.trace.specs.Slices.{Slices, storeAll}
 use Rattle.trace.specs.declared.Refusal.{Refusal}
 use Rattle.trace.proofs.Tests.{by-test}
+use Rattle.trace.proofs.Slices.{storeAll-append}
 use Rattle.text.specs.Reading.{line, parse}
-use Rattle.text.specs.Translation.{Event, eventsOf, stackAfter, MAX-TEXT-EVENTS, malformedAt, tooManyAt, refusal, prepend, eventsFrom}
-use Rattle.text.specs.Translation.{FIRST-LINE, translation, Slices, storeAll, leaving, translated}
+use Rattle.text.specs.Events.{eventsOf, stackAfter}
+use Rattle.text.specs.Decided.{MAX-TEXT-EVENTS, Translated, leaving, DecidedBy}
+use Rattle.text.specs.Translation.{malformedAt, tooManyAt, refusal, prepend, eventsFrom, FIRST-LINE, translation, translated}
 use Rattle.text.specs.Answers.{translationReply, translatedOf, attemptOf, attempted, afterLine, tasksOf, STACK-CELLS, StackAfter}
 use Rattle.text.specs.Answers.{added, addedOf}
 use Rattle.text.specs.declared.cursor.Cursor.{Cursor}
@@ -28,7 +32,7 @@ use Rattle.text.specs.declared.Translation.{Translation}
 use Rattle.text.specs.declared.Translation.the-variants.{Events, Refused}
 use Rattle.text.proofs.Parsing.{length-after-line, parse-nil, parse-none, parse-line}
 use Rattle.text.proofs.StackLaws.{length-events, length-stack-after, length-tasks}
-use Rattle.text.proofs.LineEvents.{storeAll-append}
+use Rattle.text.proofs.TextForm.{translated-decided}
 
 -- `number` lines are read, up to byte `at`; they made `count` events and left the stack of the first `depth` cells.
 pub record Translating (text : List ℕ) (b₀ b : Slices) (cells : List ℕ) (depth count at number : ℕ) : Type 0 where
@@ -136,6 +140,10 @@ module _ (text : List ℕ) (b₀ b : Slices) (cells : List ℕ) (depth count at 
           }
 
 -- ---- `translate`
+
+-- The outcome of the translation, and what it means.
+pub with-meaning : {text : List ℕ} {b : Slices} {o : Translated} → o ≡ translated text b → (o ≡ translated text b) × DecidedBy text b o
+with-meaning {text} {b} e = (e, rw e (translated-decided text b))
 
 pub translate-refused : (text : List ℕ) (r : Translation) (b b₁ b₂ : Slices) → attemptOf r b₁ ≡ attempted (translation text) 0 b₂
     → (x : Refusal) → r ≡ Refused x → translatedOf r b ≡ translated text b

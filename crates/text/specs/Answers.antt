@@ -7,9 +7,13 @@ use mathlib.Core.List.{List, [], _∷_}
 use mathlib.Core.Option.{Option, none, some}
 use lib.Dec.{ltb}
 use lib.ListN.{length, getD, drop}
+use Rattle.trace.specs.Trace.{Event}
 use Rattle.trace.specs.Outcome.{Reply, says, refused}
+use Rattle.trace.specs.Slices.{Slices, storeAll}
 use Rattle.text.specs.Reading.{Token}
-use Rattle.text.specs.Translation.{Event, eventsOf, stackAfter, MAX-TEXT-EVENTS, refusal, Slices, storeAll, Translated}
+use Rattle.text.specs.Events.{eventsOf, stackAfter}
+use Rattle.text.specs.Decided.{MAX-TEXT-EVENTS, Translated}
+use Rattle.text.specs.Translation.{refusal}
 use Rattle.text.specs.declared.cursor.Line.{Line}
 use Rattle.text.specs.declared.cursor.Operation.{Operation}
 use Rattle.text.specs.declared.cursor.Numeral.{Numeral}

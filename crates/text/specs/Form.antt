@@ -51,11 +51,15 @@ abbrev pub printAll : List Line → List ℕ
 printAll [] = []
 printAll (l ∷ lines) = print l ++ printAll lines
 
--- A text is of the form: it is the print of some lines.
-pub record OfForm (text : List ℕ) : Type 0 where
+-- Lines of the form that a text begins with, and the bytes after them.
+pub record LinesBefore (text rest : List ℕ) : Type 0 where
   pub lines : List Line
   pub in-range : AllInRange lines
-  pub printed : text ≡ printAll lines
+  pub printed : text ≡ printAll lines ++ rest
+
+-- A text is of the form: no byte comes after its lines.
+abbrev pub OfForm : List ℕ → Type 0
+OfForm text = LinesBefore text []
 
 -- "a line isn't of the text form": these bytes begin with the print of no line, though there are some.
 pub record BeginsWithNoLine (rest : List ℕ) : Type 0 where

@@ -1,5 +1,9 @@
--- What a reader must believe of the text program's library, in the order in which to read it.
+-- The text program's library. To be believed: `Form`, `Events` and `Decided`, in this order, which say what a text decides. `Reading` and `Translation` say it
+-- again as the code finds it, `Answers` what the code's answers say; `Runs` has texts to go by.
+pub mod Options
 pub mod Form
+pub mod Events
+pub mod Decided
 pub mod Reading
 pub mod Translation
 pub mod Answers

@@ -6,6 +6,7 @@ use mathlib.Core.List.{List, [], _∷_}
 use mathlib.Core.Option.{Option, none, some}
 use lib.Dec.{ltb, eqb}
 use lib.ListN.{length}
+use Rattle.text.specs.Options.{maybe, _then_, _else_}
 use Rattle.text.specs.Form.{GREATEST, opening}
 use Rattle.text.specs.declared.cursor.Line.{Line}
 use Rattle.text.specs.declared.cursor.Operation.{Operation}
@@ -14,22 +15,6 @@ use Rattle.text.specs.declared.cursor.Operation.the-variants.{Read, Writ
 -- A token and the bytes after it, or none: "the first byte that doesn't fit gives 14".
 abbrev pub Token : Type 0 → Type 0
 Token A = Option (A × List ℕ)
-
-abbrev pub maybe : {A B : Type 0} → Option A → B → (A → B) → B
-maybe none other next = other
-maybe (some a) other next = next a
-
--- The next token is read where this one was.
-infixr 20 _then_
-abbrev pub _then_ : {A B : Type 0} → Option A → (A → Option B) → Option B
-_then_ none next = none
-_then_ (some a) next = next a
-
--- The other token is read where this one was not.
-infixr 15 _else_
-abbrev pub _else_ : {A : Type 0} → Option A → Option A → Option A
-_else_ none other = other
-_else_ (some a) other = some a
 
 -- The bytes after a word.
 abbrev pub word : List ℕ → List ℕ → Option (List ℕ)

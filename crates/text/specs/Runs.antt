@@ -2,10 +2,12 @@
 use Prim.Native.Nat.{ℕ, zero, suc}
 use mathlib.Core.Path.{_≡_, refl}
 use mathlib.Core.List.{List, [], _∷_, _++_}
-use Rattle.trace.specs.Outcome.{says, refused}
+use Rattle.trace.specs.Trace.{Event}
+use Rattle.trace.specs.Outcome.{Reply, says, refused}
 use Rattle.text.specs.Form.{decimal, printAll}
 use Rattle.text.specs.Reading.{digit, isWhole, tooLarge, extended, field, line, parse}
-use Rattle.text.specs.Translation.{Event, haltOperand, eventsOf, stackAfter, translation}
+use Rattle.text.specs.Events.{haltOperand, eventsOf, stackAfter}
+use Rattle.text.specs.Translation.{translation}
 use Rattle.text.specs.declared.cursor.Line.{Line}
 use Rattle.text.specs.declared.cursor.Operation.{Operation}
 use Rattle.text.specs.declared.cursor.Operation.the-variants.{Read, Write, Fork, Join}
@@ -15,6 +17,11 @@ lineOf task operation operand source = record { task = task; operation = operati
 
 abbrev event : ℕ → ℕ → ℕ → Event
 event kind task operand = record { kind = kind; task = task; operand = operand }
+
+-- Every definition that `translation` computes by: to unfold this one is to unfold them all.
+unfoldable pub computed : List ℕ → Reply (List Event)
+unfolding translation parse line field digit isWhole tooLarge extended decimal eventsOf haltOperand stackAfter
+computed = translation
 
 -- ---- document 01's example
 
@@ -35,7 +42,7 @@ exampleEvents = event 2 0 1 ∷ event 1 1 5 ∷ event 4 1 0 ∷ event 0 0 5 ∷ 
 
 -- "Event 2 is the implied halt."
 pub example-translated : translation example ≡ says exampleEvents
-unfolding translation parse line field digit isWhole tooLarge extended eventsOf haltOperand stackAfter
+unfolding computed
 example-translated = refl
 
 -- ---- implied halts
@@ -43,50 +50,50 @@ example-translated = refl
 -- `T0|fork(T1)|1`, `T1|fork(T2)|2`, `T0|r(V5)|3`: the halts of 2 and 1, top first.
 pub halts-top-first : translation (printAll (lineOf 0 Fork 1 1 ∷ lineOf 1 Fork 2 2 ∷ lineOf 0 Read 5 3 ∷ []))
     ≡ says (event 2 0 1 ∷ event 2 1 2 ∷ event 4 2 0 ∷ event 4 1 0 ∷ event 0 0 5 ∷ [])
-unfolding translation parse line field digit isWhole tooLarge extended decimal eventsOf haltOperand stackAfter
+unfolding computed
 halts-top-first = refl
 
 -- `T0|fork(T1)|1`, `T1|fork(T0)|2`, `T0|w(V5)|3`, `T7|join(T1)|4`: 0 stands on top of the stack again, and 7 nowhere. Nothing is added at the end.
 pub no-halts : translation (printAll (lineOf 0 Fork 1 1 ∷ lineOf 1 Fork 0 2 ∷ lineOf 0 Write 5 3 ∷ lineOf 7 Join 1 4 ∷ []))
     ≡ says (event 2 0 1 ∷ event 2 1 0 ∷ event 1 0 5 ∷ event 3 7 1 ∷ [])
-unfolding translation parse line field digit isWhole tooLarge extended decimal eventsOf haltOperand stackAfter
+unfolding computed
 no-halts = refl
 
 -- ---- row 14
 
 -- `T0|r(5)|1`: no letter before the operand.
 pub no-letter : translation (84 ∷ 48 ∷ 124 ∷ 114 ∷ 40 ∷ 53 ∷ 41 ∷ 124 ∷ 49 ∷ 10 ∷ []) ≡ refused 14 0
-unfolding translation parse line field digit isWhole tooLarge extended
+unfolding computed
 no-letter = refl
 
 -- `T00|r(V5)|1`: a leading zero, on line 3 after the example.
 pub leading-zero : translation (example ++ (84 ∷ 48 ∷ 48 ∷ 124 ∷ 114 ∷ 40 ∷ 86 ∷ 53 ∷ 41 ∷ 124 ∷ 49 ∷ 10 ∷ [])) ≡ refused 14 3
-unfolding translation parse line field digit isWhole tooLarge extended eventsOf haltOperand stackAfter
+unfolding computed
 leading-zero = refl
 
 -- `T0|r(V5)|65536`: a number above 65,535.
 pub too-large : translation (84 ∷ 48 ∷ 124 ∷ 114 ∷ 40 ∷ 86 ∷ 53 ∷ 41 ∷ 124 ∷ 54 ∷ 53 ∷ 53 ∷ 51 ∷ 54 ∷ 10 ∷ []) ≡ refused 14 0
-unfolding translation parse line field digit isWhole tooLarge extended
+unfolding computed
 too-large = refl
 
 -- `T0|r(V5)|1`: the last line has no line feed.
 pub no-line-feed : translation (84 ∷ 48 ∷ 124 ∷ 114 ∷ 40 ∷ 86 ∷ 53 ∷ 41 ∷ 124 ∷ 49 ∷ []) ≡ refused 14 0
-unfolding translation parse line field digit isWhole tooLarge extended
+unfolding computed
 no-line-feed = refl
 
 -- An empty line, on line 3 after the example.
 pub empty-line : translation (example ++ (10 ∷ [])) ≡ refused 14 3
-unfolding translation parse line field digit isWhole tooLarge extended eventsOf haltOperand stackAfter
+unfolding computed
 empty-line = refl
 
 -- The greatest number is taken.
 pub greatest-number : translation (printAll (lineOf 65535 Read 65535 65535 ∷ [])) ≡ says (event 0 65535 65535 ∷ [])
-unfolding translation parse line field digit isWhole tooLarge extended decimal eventsOf haltOperand stackAfter
+unfolding computed
 greatest-number = refl
 
 -- No text, no event.
 pub empty-text : translation [] ≡ says []
-unfolding translation parse
+unfolding computed
 empty-text = refl
 
 -- ---- row 15
@@ -97,10 +104,10 @@ reads (suc n) = lineOf 0 Read 1 1 ∷ reads n
 
 -- "2,049 reads by T0"
 pub too-many-reads : translation (printAll (reads 2049)) ≡ refused 15 2048
-unfolding translation parse line field digit isWhole tooLarge extended decimal eventsOf haltOperand stackAfter
+unfolding computed
 too-many-reads = refl
 
 -- A line that is not of the form makes no events: 14 and not 15, though 2,048 events came before it.
 pub malformed-after-all : translation (printAll (reads 2048) ++ (84 ∷ [])) ≡ refused 14 2048
-unfolding translation parse line field digit isWhole tooLarge extended decimal eventsOf haltOperand stackAfter
+unfolding computed
 malformed-after-all = refl

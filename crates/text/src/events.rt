@@ -6,7 +6,9 @@ use crate::limits::STACK_CELLS;
 ghost use mathlib.Core.Path.{_≡_};
 ghost use Prim.Native.Nat.{_-_, _≤_, _<_};
 ghost use lib.ListN.{length};
-ghost use Rattle.text.specs.Translation.{MAX-TEXT-EVENTS, kindOf, haltOperand, implied, halts, pushed, slices, store, storeAll};
+ghost use Rattle.trace.specs.Slices.{slices, store, storeAll};
+ghost use Rattle.text.specs.Events.{kindOf, haltOperand, implied, halts, pushed};
+ghost use Rattle.text.specs.Decided.{MAX-TEXT-EVENTS};
 ghost use Rattle.text.specs.Answers.{tasksOf, STACK-CELLS, StackAfter, HaltsFit, added, addedOf};
 
 const HALT: u8 = 4;

@@ -10,7 +10,9 @@ use crate::limits::MAX_TEXT_EVENTS;
 use crate::limits::STACK_CELLS;
 use trace::Refusal;
 ghost use mathlib.Core.Path.{_≡_};
-ghost use Rattle.text.specs.Translation.{malformedAt, tooManyAt, translation, translated, slices};
+ghost use Rattle.trace.specs.Slices.{slices};
+ghost use Rattle.text.specs.Decided.{DecidedBy};
+ghost use Rattle.text.specs.Translation.{malformedAt, tooManyAt, translation, translated};
 ghost use Rattle.text.specs.Answers.{attemptOf, attempted, translatedOf};
 
 // What a text comes to: the number of its events, or why it is turned back.
@@ -87,8 +89,10 @@ pub fn translate(
     tasks: &mut [u16; MAX_TEXT_EVENTS],
     operands: &mut [u16; MAX_TEXT_EVENTS],
 ) -> Translation
-    ensures { λ r. ⌜ translatedOf r (slices (now (kinds .exit)) (now (tasks .exit)) (now (operands .exit)))
+    ensures outcome { λ r. ⌜ translatedOf r (slices (now (kinds .exit)) (now (tasks .exit)) (now (operands .exit)))
         ≡ translated (now (text .entry)) (slices (now (kinds .entry)) (now (tasks .entry)) (now (operands .entry))) ⌝ }
+    ensures form { λ r. ⌜ DecidedBy (now (text .entry)) (slices (now (kinds .entry)) (now (tasks .entry)) (now (operands .entry)))
+        (translatedOf r (slices (now (kinds .exit)) (now (tasks .exit)) (now (operands .exit)))) ⌝ }
 {
     let mut spare_kinds = [0u8; MAX_TEXT_EVENTS];
     let mut spare_tasks = [0u16; MAX_TEXT_EVENTS];

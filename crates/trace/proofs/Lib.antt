@@ -29,3 +29,4 @@ pub mod DemandsDecide
 pub mod PairMatters
 pub mod LaterEvents
 pub mod Table
+pub mod Slices

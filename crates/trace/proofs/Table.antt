@@ -1,8 +1,9 @@
 -- The † runs of document 01 and the examples of its table of refusals are judged as document 01 says: one computed fact about each table. Row 13, which
 -- is the ordering call's, has the fact after them. Assumes nothing.
+use Prim.Native.Nat.{ℕ}
 use mathlib.Core.Path.{_≡_, refl}
 use mathlib.Core.List.{[], _∷_, _++_, map}
-use lib.ListN.{replicate}
+use lib.ListN.{length, replicate, length-replicate}
 use Rattle.trace.specs.Trace.{traceOf, isKind, isAccess, WORKSPACE-CELLS}
 use Rattle.trace.specs.Race.{conflicting}
 use Rattle.trace.specs.Line.{row, start, isEmpty, isHead, isMember, isLeftOf, putLeftOf, remove, forked, joined, halted, haltOperand, stepByKind, step, stepAfter, lineAfter}
@@ -10,10 +11,10 @@ use Rattle.trace.specs.Graph.{isPassed, graphEvents}
 use Rattle.trace.specs.Search.{someBelow, leastBelow, next?, child?, join?, arc?, chain?, reach?, conflict?, race?}
 use Rattle.trace.specs.Outcome.{refused, Outcome, orElse, raceWith, partner, failureAt, firstFailure, atEnd, orAtEnd, judgement, inD?, sizes, orderRoom, cleared, firstOrder, secondOrder, judgeChecked, judgeOutcome, orderingSaid, ordering, orderingChecked, orderingOutcome}
 use Rattle.trace.specs.Runs.{Example, runs, lentFor, judged, expected}
-use Rattle.trace.specs.Refusals.{examples}
+use Rattle.trace.specs.Refusals.{cells, sizeExamples, examples}
 
 -- Every definition that `judged` computes by: to unfold this one is to unfold them all.
-computed : Example → Outcome
+unfoldable pub computed : Example → Outcome
 unfolding traceOf isKind isAccess conflicting row start isEmpty isHead isMember isLeftOf putLeftOf remove forked joined halted haltOperand stepByKind step stepAfter lineAfter isPassed graphEvents someBelow leastBelow next? child? join? arc? chain? reach? conflict? race? orElse raceWith partner failureAt firstFailure atEnd orAtEnd judgement inD? sizes orderRoom cleared firstOrder secondOrder judgeChecked judgeOutcome lentFor judged
 computed = judged
 
@@ -22,7 +23,16 @@ pub runs-as-expected : map judged runs ≡ map expected runs
 unfolding computed runs expected
 runs-as-expected = refl
 
--- The examples of rows 1 to 12.
+-- The examples of rows 1 to 4. These rows ask for lengths alone, so no cell is looked at.
+length-cells : (n value : ℕ) → length (cells n value) ≡ n
+unfolding cells
+length-cells n value = length-replicate n value
+
+pub sizes-as-expected : map judged sizeExamples ≡ map expected sizeExamples
+unfolding judged judgeOutcome judgeChecked orderRoom sizes row sizeExamples expected
+sizes-as-expected = simp length-cells refl
+
+-- The examples of rows 5 to 12.
 pub examples-as-expected : map judged examples ≡ map expected examples
 unfolding computed examples expected
 examples-as-expected = refl

@@ -11,3 +11,4 @@ pub mod Demands
 pub mod Answers
 pub mod Runs
 pub mod Refusals
+pub mod Slices

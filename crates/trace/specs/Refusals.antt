@@ -4,33 +4,32 @@
 use Prim.Native.Nat.{ℕ}
 use mathlib.Core.List.{List, [], _∷_}
 use lib.ListN.{replicate}
-use Rattle.trace.specs.Trace.{READ, HALT}
+use Rattle.trace.specs.Trace.{Event, READ, HALT}
 use Rattle.trace.specs.Outcome.{refused}
-use Rattle.trace.specs.Runs.{Event, _read_, _write_, _fork_, _join_, _halt, Example, example, gives}
+use Rattle.trace.specs.Runs.{_read_, _write_, _fork_, _join_, _halt, Example, example, gives}
 
--- Rows 1 to 4: the lengths of the three slices, the numbers of cells of the workspace and of the two order buffers, and the row. All is left unchanged.
+-- ---- rows 1 to 4
+
+-- So many cells, with one value in each.
+unfoldable pub cells : ℕ → ℕ → List ℕ
+cells n value = replicate n value
+
+-- The lengths of the three slices, the numbers of cells of the workspace and of the two order buffers, and the row. All is left unchanged.
 abbrev sized : ℕ → ℕ → ℕ → ℕ → ℕ → ℕ → ℕ → Example
 sized kinds tasks operands workspace first second number =
-    let cells : List ℕ = replicate workspace 9 in
-    let cells₁ : List ℕ = replicate first 9 in
-    let cells₂ : List ℕ = replicate second 9 in
     record {
-      kinds = replicate kinds READ;
-      tasks = replicate tasks 0;
-      operands = replicate operands 0;
-      workspace = cells;
-      first = cells₁;
-      second = cells₂;
-      outcome = record { answer = refused number 0; workspace = cells; first = cells₁; second = cells₂ };
+      kinds = cells kinds READ;
+      tasks = cells tasks 0;
+      operands = cells operands 0;
+      workspace = cells workspace 9;
+      first = cells first 9;
+      second = cells second 9;
+      outcome = record { answer = refused number 0; workspace = cells workspace 9; first = cells first 9; second = cells second 9 };
     }
 
--- An event of any kind, and with any operand.
-abbrev event : ℕ → ℕ → ℕ → Event
-event task kind operand = record { task = task; kind = kind; operand = operand }
-
--- In the order of the rows; the document's own example first, where a row has several. Buffers with no cell to spare pass rows 3 and 4.
-unfoldable pub examples : List Example
-examples =
+-- In the order of the rows; the document's own example first, where a row has several.
+unfoldable pub sizeExamples : List Example
+sizeExamples =
     sized 2 3 3 12291 3 3 1
     ∷ sized 3 2 3 12291 3 3 1
     ∷ sized 3 3 2 12291 3 3 1
@@ -41,7 +40,18 @@ examples =
     ∷ sized 32768 32768 32768 45055 0 0 3
     ∷ sized 1 1 1 12289 0 1 4
     ∷ sized 1 1 1 12289 1 0 4
-    ∷ gives (event 0 5 0 ∷ []) (refused 5 0)
+    ∷ []
+
+-- ---- rows 5 to 12
+
+-- An event of any kind, and with any operand.
+abbrev event : ℕ → ℕ → ℕ → Event
+event task kind operand = record { task = task; kind = kind; operand = operand }
+
+-- In the same order. Buffers with no cell to spare pass rows 3 and 4.
+unfoldable pub examples : List Example
+examples =
+    gives (event 0 5 0 ∷ []) (refused 5 0)
     ∷ example 0 (event 0 5 0 ∷ []) (refused 5 0) [] []
     ∷ gives (event 1 5 0 ∷ []) (refused 5 0)
     ∷ gives (0 halt ∷ event 0 5 0 ∷ []) (refused 5 1)

@@ -3,13 +3,8 @@
 use Prim.Native.Nat.{ℕ, _+_}
 use mathlib.Core.List.{List, [], _∷_, _++_, map}
 use lib.ListN.{length, drop, replicate}
-use Rattle.trace.specs.Trace.{READ, WRITE, FORK, JOIN, HALT, WORKSPACE-CELLS}
+use Rattle.trace.specs.Trace.{Event, READ, WRITE, FORK, JOIN, HALT, WORKSPACE-CELLS}
 use Rattle.trace.specs.Outcome.{Reply, says, refused, Verdict, clean, race, Outcome, judgeOutcome}
-
-pub record Event : Type 0 where
-  pub task : ℕ
-  pub kind : ℕ
-  pub operand : ℕ
 
 -- "`0 fork 1` means task 0 forks task 1."
 infix 80 _read_

@@ -6,6 +6,12 @@ use lib.Dec.{eqb, leb}
 use lib.ListN.{getD}
 
 -- "Entry p of each makes event p": its kind, the task that acts, and its operand.
+pub record Event : Type 0 where
+  pub kind : ℕ
+  pub task : ℕ
+  pub operand : ℕ
+
+-- The same at every position p.
 pub record Trace : Type 0 where
   pub kind : ℕ → ℕ
   pub task : ℕ → ℕ

@@ -11,19 +11,19 @@ array-share-prefix-kinds : tie.Need-array-share-prefix-kinds
 array-share-prefix-kinds c =
     let matched = c .before in
     let translated = matched .before .before in
-    room-kinds _ _ fresh-sized _ _ _ _ (translated .translate .ensures) _ (matched .translation .given .1)
+    room-kinds _ _ fresh-sized _ _ _ _ (translated .translate .ensures .0) _ (matched .translation .given .1)
 
 array-share-prefix-tasks : tie.Need-array-share-prefix-tasks
 array-share-prefix-tasks c =
     let matched = c .before .before in
     let translated = matched .before .before in
-    room-tasks _ _ fresh-sized _ _ _ _ (translated .translate .ensures) _ (matched .translation .given .1)
+    room-tasks _ _ fresh-sized _ _ _ _ (translated .translate .ensures .0) _ (matched .translation .given .1)
 
 array-share-prefix-operands : tie.Need-array-share-prefix-operands
 array-share-prefix-operands c =
     let matched = c .before .before .before in
     let translated = matched .before .before in
-    room-operands _ _ fresh-sized _ _ _ _ (translated .translate .ensures) _ (matched .translation .given .1)
+    room-operands _ _ fresh-sized _ _ _ _ (translated .translate .ensures .0) _ (matched .translation .given .1)
 
 returns : tie.Need-returns
 returns c =
@@ -31,7 +31,7 @@ returns c =
     let matched = answering .before .before .before .before .before .before in
     let translated = matched .before .before in
     let e =
-    answer-events _ _ fresh-sized _ _ _ _ (translated .translate .ensures) _ (matched .translation .given .1) _ _ (answering .answer-events .ensures) in
+    answer-events _ _ fresh-sized _ _ _ _ (translated .translate .ensures .0) _ (matched .translation .given .1) _ _ (answering .answer-events .ensures) in
     (e, answered-within _ _ _ _ e)
 
 returns-2 : tie.Need-returns-2
@@ -40,7 +40,7 @@ returns-2 c =
     let matched = answering .before .before .before in
     let translated = matched .before .before in
     let e =
-    answer-refusal _ _ fresh-sized _ _ _ _ (translated .translate .ensures) _ (matched .translation2 .given .1) _ _ (answering .answer-refusal .ensures) in
+    answer-refusal _ _ fresh-sized _ _ _ _ (translated .translate .ensures .0) _ (matched .translation2 .given .1) _ _ (answering .answer-refusal .ensures) in
     (e, answered-within _ _ _ _ e)
 
 pub answer-spec : {M : Type 1} → statement M

@@ -4,7 +4,7 @@ use mathlib.Core.Path.{refl}
 use Prim.Native.Nat.{_-_}
 use lib.ListN.{length}
 use borrow.Author.Needs.{needs}
-use Rattle.text.specs.Translation.{slices}
+use Rattle.trace.specs.Slices.{slices}
 use Rattle.text.proofs.Translating.{Translating, translating-begins, translating-ends, translating-malformed, translating-too-many}
 use Rattle.text.proofs.Translating.{translating-more, translating-less}
 use Rattle.text.proofs.translate_into.Statement.{statement}

@@ -1,5 +1,5 @@
--- `text::events::halt_above` meets its contract: the loop writes the halts, top first (`Unwinding`). Assumes nothing.
-use Rattle.text.specs.Translation.{slices}
+-- `text::events::halt_above` meets its contract: the loop writes the halts, top first (`ImpliedHalts`). Assumes nothing.
+use Rattle.trace.specs.Slices.{slices}
 use Rattle.text.proofs.ImpliedHalts.{Halting, halting-begins, halting-more, halting-whole}
 use borrow.Author.Needs.{needs}
 use Rattle.text.proofs.events.halt_above.Statement.{statement}

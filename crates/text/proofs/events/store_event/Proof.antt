@@ -1,7 +1,7 @@
 -- `text::events::store_event` meets its contract: three stores. Assumes nothing.
 use mathlib.Core.Path.{refl}
 use borrow.Author.Needs.{needs}
-use Rattle.text.specs.Translation.{store}
+use Rattle.trace.specs.Slices.{store}
 use Rattle.text.proofs.events.store_event.Statement.{statement}
 use Rattle.text.proofs.events.store_event.Tie as tie
 

@@ -1,4 +1,4 @@
--- `text::events::unwind` meets its contract: the loop searches from the top (`Unwinding`). Assumes nothing.
+-- `text::events::unwind` meets its contract: the loop searches from the top (`ImpliedHalts`). Assumes nothing.
 use Rattle.text.proofs.ImpliedHalts.{Searching, searching-begins, searching-more, searching-found, searching-ends}
 use borrow.Author.Needs.{needs}
 use Rattle.text.proofs.events.unwind.Statement.{statement}
