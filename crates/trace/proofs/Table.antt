@@ -1,7 +1,8 @@
--- The † runs of document 01 and the examples of its table of refusals are judged as document 01 says: one computed fact about each table. Row 13, which
--- is the ordering call's, has the fact after them. Assumes nothing.
+-- The † runs of document 01, those that tell a judge that deceives, and the examples of its table of refusals are judged as document 01 says: one computed
+-- fact about each table. Row 13, which is the ordering call's, has the fact after them; then what each case of the code's answers says. Assumes nothing.
 use Prim.Native.Nat.{ℕ}
 use mathlib.Core.Path.{_≡_, refl}
+use mathlib.Core.Bool.{true, false}
 use mathlib.Core.List.{[], _∷_, _++_, map}
 use lib.ListN.{length, replicate, length-replicate}
 use Rattle.trace.specs.Trace.{traceOf, isKind, isAccess, WORKSPACE-CELLS}
@@ -9,8 +10,11 @@ use Rattle.trace.specs.Race.{conflicting}
 use Rattle.trace.specs.Line.{row, start, isEmpty, isHead, isMember, isLeftOf, putLeftOf, remove, forked, joined, halted, haltOperand, stepByKind, step, stepAfter, lineAfter}
 use Rattle.trace.specs.Graph.{isPassed, graphEvents}
 use Rattle.trace.specs.Search.{someBelow, leastBelow, next?, child?, join?, arc?, chain?, reach?, conflict?, race?}
-use Rattle.trace.specs.Outcome.{refused, Outcome, orElse, raceWith, partner, failureAt, firstFailure, atEnd, orAtEnd, judgement, inD?, sizes, orderRoom, cleared, firstOrder, secondOrder, judgeChecked, judgeOutcome, orderingSaid, ordering, orderingChecked, orderingOutcome}
-use Rattle.trace.specs.Runs.{Example, runs, lentFor, judged, expected}
+use Rattle.trace.specs.declared.Answer.the-variants.{Clean, Race, Refused}
+use Rattle.trace.specs.declared.Ordering.{Ordering}
+use Rattle.trace.specs.Outcome.{says, refused, clean, race, Outcome, orElse, raceWith, partner, failureAt, firstFailure, atEnd, orAtEnd, judgement, inD?, sizes, orderRoom, cleared, firstOrder, secondOrder, judgeChecked, judgeOutcome, orderingSaid, ordering, orderingChecked, orderingOutcome}
+use Rattle.trace.specs.Answers.{judgeReply, orderingReply}
+use Rattle.trace.specs.Runs.{Example, runs, deceivers, lentFor, judged, expected}
 use Rattle.trace.specs.Refusals.{cells, sizeExamples, examples}
 
 -- Every definition that `judged` computes by: to unfold this one is to unfold them all.
@@ -22,6 +26,11 @@ computed = judged
 pub runs-as-expected : map judged runs ≡ map expected runs
 unfolding computed runs expected
 runs-as-expected = refl
+
+-- The runs that tell a judge that deceives.
+pub deceivers-as-expected : map judged deceivers ≡ map expected deceivers
+unfolding computed deceivers expected
+deceivers-as-expected = refl
 
 -- The examples of rows 1 to 4. These rows ask for lengths alone, so no cell is looked at.
 length-cells : (n value : ℕ) → length (cells n value) ≡ n
@@ -42,3 +51,18 @@ pub beyond-as-expected :
     orderingOutcome [] [] [] (lentFor 1 WORKSPACE-CELLS) 0 0 ≡ record { answer = refused 13 0; workspace = replicate WORKSPACE-CELLS 0 ++ (9 ∷ []) }
 unfolding computed orderingSaid ordering orderingChecked orderingOutcome
 beyond-as-expected = refl
+
+-- What each case of the code's answers says: "clean", "race s t", "refused number position"; "yes", "no", "such a refusal".
+pub judge-replies :
+    (judgeReply Clean ≡ says clean)
+    × ((s t : ℕ) → judgeReply (Race s t) ≡ says (race s t))
+    × ((number position : ℕ) → judgeReply (Refused (record { number = number; position = position })) ≡ refused number position)
+unfolding judgeReply
+judge-replies = (refl, λ s t. refl, λ number position. refl)
+
+pub ordering-replies :
+    (orderingReply Ordering.Yes ≡ says true)
+    × (orderingReply Ordering.No ≡ says false)
+    × ((number position : ℕ) → orderingReply (Ordering.Refused (record { number = number; position = position })) ≡ refused number position)
+unfolding orderingReply
+ordering-replies = (refl, refl, λ number position. refl)

@@ -1,5 +1,5 @@
 -- The runs of document 01 that are marked † ("Runs to go by"), as one table of trace and outcome, judged by the very function that the judge's contract
--- cites. Assumes nothing.
+-- cites; and those that tell a judge that deceives. Assumes nothing.
 use Prim.Native.Nat.{ℕ, _+_}
 use mathlib.Core.List.{List, [], _∷_, _++_, map}
 use lib.ListN.{length, drop, replicate}
@@ -86,6 +86,18 @@ runs =
     (0 ∷ 3 ∷ 4 ∷ 1 ∷ 7 ∷ 2 ∷ 5 ∷ 6 ∷ [])
     (0 ∷ 3 ∷ 4 ∷ 7 ∷ 1 ∷ 2 ∷ 5 ∷ 6 ∷ [])
     ∷ gives (0 fork 1 ∷ 1 read 7 ∷ 1 halt ∷ 0 read 7 ∷ 0 fork 2 ∷ 2 join 1 ∷ 2 halt ∷ 0 join 2 ∷ 0 write 7 ∷ []) (says clean)
+    ∷ []
+
+-- What two of the "Judges that deceive" get wrong: one that remembers only the last reader, and one that takes a paused parent's accesses before the fork
+-- as unordered with its child's. (The runs above have what the others get wrong.)
+unfoldable pub deceivers : List Example
+deceivers =
+    races (0 fork 1 ∷ 1 read 5 ∷ 1 halt ∷ 0 fork 2 ∷ 2 read 5 ∷ 2 halt ∷ 0 join 2 ∷ 0 write 5 ∷ [])
+    1
+    7
+    (0 ∷ 3 ∷ 4 ∷ 5 ∷ 6 ∷ 1 ∷ 7 ∷ 2 ∷ [])
+    (0 ∷ 3 ∷ 4 ∷ 5 ∷ 6 ∷ 7 ∷ 1 ∷ 2 ∷ [])
+    ∷ gives (0 write 5 ∷ 0 fork 1 ∷ 1 write 5 ∷ []) (says clean)
     ∷ []
 
 -- The judge's outcome for what is lent, and the one that document 01 names.
