@@ -5,7 +5,9 @@ from typing import NamedTuple
 from claims.repository import ROOT
 
 WIDTH, LEAST = 140, 24  # of a cell, at most; of a code in it, before the cell is cut at its end
-MARKS = {"runs-as-expected": "†", "examples-as-expected": "‡"}  # the computed tables of crate trace
+MARKS = {  # the computed tables of crate trace
+    "runs-as-expected": "†", "deceivers-as-expected": "§", "examples-as-expected": "‡", "sizes-as-expected": "‡",
+}
 CASCADE = "was not admitted"  # refused for the sake of what it cites
 MISFIT = r"that can be named from here|^record `[^`]*` has no field|^`[^`]*` is not in scope"  # a name in the proof or the edit stands for nothing
 UNSTATED = r"cannot be unfolded because it was not admitted|^`Need-[^`]*` was not admitted"  # a definition is refused, and so nothing is said
@@ -97,4 +99,4 @@ def of(crate, label):
         return Refusal("", [], "its log has no refusal: the edit passes, does not reach the prover, or is still being tried")
     refused = {error.declaration for error in found if CASCADE not in error.message}
     fault = "refused because the proof no longer fits, not at a fact" if is_misfit(found) else ""
-    return Refusal(cell(found[0]), [mark for table, mark in MARKS.items() if table in refused], fault)
+    return Refusal(cell(found[0]), list(dict.fromkeys(mark for table, mark in MARKS.items() if table in refused)), fault)

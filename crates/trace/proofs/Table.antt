@@ -1,6 +1,6 @@
 -- The † runs of document 01, those that tell a judge that deceives, and the examples of its table of refusals are judged as document 01 says: one computed
 -- fact about each table. Row 13, which is the ordering call's, has the fact after them; then what each case of the code's answers says. Assumes nothing.
-use Prim.Native.Nat.{ℕ}
+use Prim.Native.Nat.{ℕ, _+_}
 use mathlib.Core.Path.{_≡_, refl}
 use mathlib.Core.Bool.{true, false}
 use mathlib.Core.List.{[], _∷_, _++_, map}
@@ -51,6 +51,13 @@ pub beyond-as-expected :
     orderingOutcome [] [] [] (lentFor 1 WORKSPACE-CELLS) 0 0 ≡ record { answer = refused 13 0; workspace = replicate WORKSPACE-CELLS 0 ++ (9 ∷ []) }
 unfolding computed orderingSaid ordering orderingChecked orderingOutcome
 beyond-as-expected = refl
+
+-- "Refusal 13 comes after all others": where event 0 has no known kind and neither p nor q is an event.
+pub broken-as-expected :
+    orderingOutcome (5 ∷ []) (0 ∷ []) (0 ∷ []) (lentFor 1 (WORKSPACE-CELLS + 1)) 1 1
+    ≡ record { answer = refused 5 0; workspace = replicate (WORKSPACE-CELLS + 1) 0 ++ (9 ∷ []) }
+unfolding computed orderingSaid ordering orderingChecked orderingOutcome
+broken-as-expected = refl
 
 -- What each case of the code's answers says: "clean", "race s t", "refused number position"; "yes", "no", "such a refusal".
 pub judge-replies :
