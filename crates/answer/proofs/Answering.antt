@@ -21,13 +21,13 @@ use Rattle.trace.proofs.Sizes.{refused-not-says}
 use Rattle.trace.proofs.Tests.{by-test}
 use Rattle.trace.proofs.Slices.{After}
 use Rattle.judge.specs.Entry.{judgeGives}
-use Rattle.text.specs.Decided.{MAX-TEXT-EVENTS, Translated}
-use Rattle.text.specs.Translation.{translation, translated}
+use Rattle.form.specs.Decided.{MAX-TEXT-EVENTS, Translated}
+use Rattle.form.specs.Translation.{translation, translated}
 use Rattle.text.specs.Answers.{translationReply, translatedOf}
 use Rattle.output.specs.Output.{output, Buffer, buffer, OUTPUT-BYTES, ofText, rendered}
 use Rattle.text.specs.declared.Translation.{Translation}
 use Rattle.text.specs.declared.Translation.the-variants.{Events, Refused as Turned}
-use Rattle.text.proofs.Accepted.{translation-at-most, Sized, slices-after}
+use Rattle.form.proofs.Accepted.{translation-at-most, Sized, slices-after}
 use Rattle.output.proofs.Rendered.{length-output}
 use Rattle.answer.specs.Answer.{Counts, zeros, judged, judgedEvents, printed, textAnswer, holding, answered, eventsRendered}
 

@@ -4,7 +4,7 @@ use mathlib.Core.Path.{_≡_}
 use mathlib.Core.List.{List}
 use Prim.Native.Nat.{ℕ}
 use lib.ListN.{take}
-use Rattle.text.proofs.LongTexts.{TEXT-BYTES, translation-take}
+use Rattle.form.proofs.LongTexts.{TEXT-BYTES, translation-take}
 use Rattle.answer.specs.Answer.{textAnswer, answered}
 
 pub answer-take : (text : List ℕ) → textAnswer text ≡ textAnswer (take TEXT-BYTES text)

@@ -8,8 +8,8 @@ use lib.Dec.{leb}
 use lib.ListN.{length, take, drop, replicate}
 use Rattle.trace.specs.Trace.{Event, WORKSPACE-CELLS}
 use Rattle.trace.specs.Outcome.{Reply, says, refused, Outcome, judgeOutcome}
-use Rattle.text.specs.Decided.{MAX-TEXT-EVENTS}
-use Rattle.text.specs.Translation.{translation}
+use Rattle.form.specs.Decided.{MAX-TEXT-EVENTS}
+use Rattle.form.specs.Translation.{translation}
 use Rattle.output.specs.Output.{output, Buffer, buffer, OUTPUT-BYTES, rendered}
 
 -- Lent cells, all 0.

@@ -13,10 +13,10 @@ use Rattle.trace.specs.Answers.{judgeReply}
 use Rattle.trace.specs.declared.Answer.{Answer}
 use Rattle.trace.specs.declared.Answer.the-variants.{Clean, Race, Refused}
 use Rattle.trace.specs.declared.Refusal.{Refusal}
-use Rattle.text.specs.Decided.{MAX-TEXT-EVENTS}
+use Rattle.form.specs.Decided.{MAX-TEXT-EVENTS}
 use Rattle.output.specs.Output.{CLEAN, RACE, REFUSED, rest, orderLine, orderLines, output, Buffer, buffer, addByte, add, OUTPUT-BYTES}
 use Rattle.output.specs.Output.{ofText, rendered}
-use Rattle.text.proofs.Decimal.{length-decimal-le}
+use Rattle.form.proofs.Decimal.{length-decimal-le}
 
 -- ---- the length of an output
 

@@ -5,8 +5,8 @@ use mathlib.Core.List.{List, [], _∷_, _++_}
 use lib.Dec.{leb, ltb}
 use lib.ListN.{length, take, drop, set}
 use Rattle.trace.specs.Outcome.{Reply, says, refused, Verdict, clean, race}
-use Rattle.text.specs.Form.{decimal}
-use Rattle.text.specs.Decided.{MAX-TEXT-EVENTS}
+use Rattle.form.specs.Form.{decimal}
+use Rattle.form.specs.Decided.{MAX-TEXT-EVENTS}
 
 -- `clean`, `race`, `refused`
 abbrev pub CLEAN : List ℕ

@@ -4,8 +4,8 @@ ghost use mathlib.Core.Path.{_≡_};
 ghost use Prim.Native.Nat.{_-_, _≤_, _<_, min};
 ghost use mathlib.Core.List.{[], _∷_, _++_};
 ghost use lib.ListN.{length, take, drop};
-ghost use Rattle.text.specs.Form.{decimal};
-ghost use Rattle.text.specs.Decided.{MAX-TEXT-EVENTS};
+ghost use Rattle.form.specs.Form.{decimal};
+ghost use Rattle.form.specs.Decided.{MAX-TEXT-EVENTS};
 ghost use Rattle.output.specs.Output.{CLEAN, RACE, REFUSED, rest, orderLine, orderLines, buffer, addByte, add};
 
 fn put_byte(out: &mut [u8], at: usize, byte: u8) -> usize

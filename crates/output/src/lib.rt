@@ -1,7 +1,7 @@
 // From an answer to the program's output: `render` writes the bytes to a lent buffer.
 mod bytes;
 
-use text::limits::MAX_TEXT_EVENTS;
+use form::MAX_TEXT_EVENTS;
 use trace::Answer;
 ghost use mathlib.Core.Path.{_≡_};
 ghost use Rattle.trace.specs.Answers.{judgeReply};

@@ -8,8 +8,8 @@ use mathlib.Core.Option.{Option, none, some}
 use lib.ListN.{getD}
 use borrow.Author.Tests.{eq-eqb, ne-eqb}
 use Rattle.trace.specs.Slices.{Slices, store, storeAll}
-use Rattle.text.specs.Options.{_then_}
-use Rattle.text.specs.Events.{haltOperand, halt, halts, above, implied}
+use Rattle.form.specs.Options.{_then_}
+use Rattle.form.specs.Events.{haltOperand, halt, halts, above, implied}
 use Rattle.text.specs.Answers.{tasksOf}
 
 -- A place counted from a higher one.

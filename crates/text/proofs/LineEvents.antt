@@ -8,11 +8,12 @@ use lib.ListN.{length}
 use borrow.Author.Tests.{lt-ltb, le-ltb}
 use Rattle.trace.specs.Slices.{Slices, store, storeAll}
 use Rattle.trace.proofs.Slices.{storeAll-append}
-use Rattle.text.specs.Events.{halts, implied, kindOf, eventOf, eventsOf, pushed, stackAfter}
-use Rattle.text.specs.Decided.{MAX-TEXT-EVENTS}
+use Rattle.form.specs.Events.{halts, implied, kindOf, eventOf, eventsOf, pushed, stackAfter}
+use Rattle.form.specs.Decided.{MAX-TEXT-EVENTS}
 use Rattle.text.specs.Answers.{tasksOf, added}
-use Rattle.text.specs.declared.cursor.Line.{Line}
-use Rattle.text.proofs.StackLaws.{implied-le, length-halts, length-events, length-tasks, drop-tasks}
+use Rattle.form.specs.declared.Line.{Line}
+use Rattle.form.proofs.EventCounts.{implied-le, length-halts, length-events}
+use Rattle.text.proofs.StackLaws.{length-tasks, drop-tasks}
 
 module _ (l : Line) (cells : List ℕ) (depth n base : ℕ) (b : Slices) (left : base ≡ depth - implied (l .task) (tasksOf cells depth)) where
   count : length (eventsOf (tasksOf cells depth) l) ≡ depth - base + 1

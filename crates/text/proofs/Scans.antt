@@ -8,7 +8,7 @@ use mathlib.Core.Option.{none, some}
 use lib.ListN.{length, getD, drop, drop-of-length-le}
 use lib.Seq.{drop-cons}
 use borrow.Author.Tests.{eq-eqb, ne-eqb}
-use Rattle.text.specs.Reading.{digit, extended, scan, word, number}
+use Rattle.form.specs.Reading.{digit, extended, scan, word, number}
 use Rattle.text.specs.Answers.{numeralOf}
 use Rattle.text.specs.declared.cursor.Numeral.{Numeral}
 use Rattle.text.specs.declared.cursor.Numeral.the-variants.{Number, Stop}

@@ -8,8 +8,8 @@ use mathlib.Core.List.{List, [], _∷_}
 use mathlib.Core.Option.{none, some}
 use lib.ListN.{drop}
 use Rattle.trace.proofs.Tests.{tests-false}
-use Rattle.text.specs.Form.{GREATEST, opening}
-use Rattle.text.specs.Reading.{digit, isWhole, tooLarge, extended, word, number, operation, field, line}
+use Rattle.form.specs.Form.{GREATEST, opening}
+use Rattle.form.specs.Reading.{digit, isWhole, tooLarge, extended, word, number, operation, field, line}
 use Rattle.text.specs.Answers.{numeralOf, afterWord, afterNumber, afterOperation}
 use Rattle.text.specs.declared.cursor.Cursor.{Cursor}
 use Rattle.text.specs.declared.cursor.Numeral.{Numeral}
@@ -20,9 +20,9 @@ use Rattle.text.specs.declared.cursor.NumberToken.{NumberToken}
 use Rattle.text.specs.declared.cursor.NumberToken.the-variants.{Value, NoNumber}
 use Rattle.text.specs.declared.cursor.OperationToken.{OperationToken}
 use Rattle.text.specs.declared.cursor.OperationToken.the-variants.{Known, NoOperation}
-use Rattle.text.specs.declared.cursor.Operation.{Operation}
-use Rattle.text.specs.declared.cursor.Operation.the-variants.{Read, Write, Fork, Join}
-use Rattle.text.proofs.Decimal.{test-whole, test-too-large}
+use Rattle.form.specs.declared.Operation.{Operation}
+use Rattle.form.specs.declared.Operation.the-variants.{Read, Write, Fork, Join}
+use Rattle.form.proofs.Decimal.{test-whole, test-too-large}
 
 -- ---- `extend`: the number with the digit that may follow
 

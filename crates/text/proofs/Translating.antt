@@ -16,23 +16,24 @@ use Rattle.trace.specs.Slices.{Slices, storeAll}
 use Rattle.trace.specs.declared.Refusal.{Refusal}
 use Rattle.trace.proofs.Tests.{by-test}
 use Rattle.trace.proofs.Slices.{storeAll-append}
-use Rattle.text.specs.Reading.{line, parse}
-use Rattle.text.specs.Events.{eventsOf, stackAfter}
-use Rattle.text.specs.Decided.{MAX-TEXT-EVENTS, Translated, leaving, DecidedBy}
-use Rattle.text.specs.Translation.{malformedAt, tooManyAt, refusal, prepend, eventsFrom, FIRST-LINE, translation, translated}
+use Rattle.form.specs.Reading.{line, parse}
+use Rattle.form.specs.Events.{eventsOf, stackAfter}
+use Rattle.form.specs.Decided.{MAX-TEXT-EVENTS, Translated, leaving, DecidedBy}
+use Rattle.form.specs.Translation.{malformedAt, tooManyAt, refusal, prepend, eventsFrom, FIRST-LINE, translation, translated}
 use Rattle.text.specs.Answers.{translationReply, translatedOf, attemptOf, attempted, afterLine, tasksOf, STACK-CELLS, StackAfter}
 use Rattle.text.specs.Answers.{added, addedOf}
 use Rattle.text.specs.declared.cursor.Cursor.{Cursor}
-use Rattle.text.specs.declared.cursor.Line.{Line}
+use Rattle.form.specs.declared.Line.{Line}
 use Rattle.text.specs.declared.cursor.LineToken.{LineToken}
 use Rattle.text.specs.declared.cursor.LineToken.the-variants.{Whole, Malformed}
 use Rattle.text.specs.declared.events.Added.{Added}
 use Rattle.text.specs.declared.events.Added.the-variants.{To, TooMany}
 use Rattle.text.specs.declared.Translation.{Translation}
 use Rattle.text.specs.declared.Translation.the-variants.{Events, Refused}
-use Rattle.text.proofs.Parsing.{length-after-line, parse-nil, parse-none, parse-line}
-use Rattle.text.proofs.StackLaws.{length-events, length-stack-after, length-tasks}
-use Rattle.text.proofs.TextForm.{translated-decided}
+use Rattle.form.proofs.Parsing.{length-after-line, parse-nil, parse-none, parse-line}
+use Rattle.form.proofs.EventCounts.{length-events, length-stack-after}
+use Rattle.text.proofs.StackLaws.{length-tasks}
+use Rattle.form.proofs.TextForm.{translated-decided}
 
 -- `number` lines are read, up to byte `at`; they made `count` events and left the stack of the first `depth` cells.
 pub record Translating (text : List ℕ) (b₀ b : Slices) (cells : List ℕ) (depth count at number : ℕ) : Type 0 where

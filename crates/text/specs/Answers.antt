@@ -10,12 +10,12 @@ use lib.ListN.{length, getD, drop}
 use Rattle.trace.specs.Trace.{Event}
 use Rattle.trace.specs.Outcome.{Reply, says, refused}
 use Rattle.trace.specs.Slices.{Slices, storeAll}
-use Rattle.text.specs.Reading.{Token}
-use Rattle.text.specs.Events.{eventsOf, stackAfter}
-use Rattle.text.specs.Decided.{MAX-TEXT-EVENTS, Translated}
-use Rattle.text.specs.Translation.{refusal}
-use Rattle.text.specs.declared.cursor.Line.{Line}
-use Rattle.text.specs.declared.cursor.Operation.{Operation}
+use Rattle.form.specs.Reading.{Token}
+use Rattle.form.specs.Events.{eventsOf, stackAfter}
+use Rattle.form.specs.Decided.{MAX-TEXT-EVENTS, Translated}
+use Rattle.form.specs.Translation.{refusal}
+use Rattle.form.specs.declared.Line.{Line}
+use Rattle.form.specs.declared.Operation.{Operation}
 use Rattle.text.specs.declared.cursor.Numeral.{Numeral}
 use Rattle.text.specs.declared.cursor.Numeral.the-variants.{Number, Stop}
 use Rattle.text.specs.declared.cursor.WordToken.{WordToken}

@@ -1,10 +1,2 @@
--- The text program's library. To be believed: `Form`, `Events` and `Decided`, in this order, which say what a text decides. `Reading` and `Translation` say it
--- again as the code finds it, `Answers` what the code's answers say; `Runs` has texts to go by.
-pub mod Options
-pub mod Form
-pub mod Events
-pub mod Decided
-pub mod Reading
-pub mod Translation
+-- What the code's answers say.
 pub mod Answers
-pub mod Runs

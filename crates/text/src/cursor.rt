@@ -1,26 +1,13 @@
 // The tokens of a trace line, read left to right by a cursor by value: each method hands back the token with the moved cursor.
+use form::Line;
+use form::Operation;
 ghost use mathlib.Core.Path.{_≡_};
 ghost use lib.ListN.{drop};
-ghost use Rattle.text.specs.Reading.{digit, extended, word, number, operation, field, line};
+ghost use Rattle.form.specs.Reading.{digit, extended, word, number, operation, field, line};
 ghost use Rattle.text.specs.Answers.{numeralOf, afterWord, afterNumber, afterOperation, afterLine};
 
 // The greatest number of the text form.
 const GREATEST: u32 = 65535;
-
-pub enum Operation {
-    Read,
-    Write,
-    Fork,
-    Join,
-}
-
-// A line of the text form. Its source line is read and not used.
-pub struct Line {
-    pub task: u16,
-    pub operation: Operation,
-    pub operand: u16,
-    pub source: u16,
-}
 
 // A place in a text.
 pub struct Cursor {

@@ -1,14 +1,14 @@
 // The events of one line, with the halts that it implies, and the stack of tasks.
-use crate::cursor::Line;
-use crate::cursor::Operation;
 use crate::limits::MAX_TEXT_EVENTS;
 use crate::limits::STACK_CELLS;
+use form::Line;
+use form::Operation;
 ghost use mathlib.Core.Path.{_≡_};
 ghost use Prim.Native.Nat.{_-_, _≤_, _<_};
 ghost use lib.ListN.{length};
 ghost use Rattle.trace.specs.Slices.{slices, store, storeAll};
-ghost use Rattle.text.specs.Events.{kindOf, haltOperand, implied, halts, pushed};
-ghost use Rattle.text.specs.Decided.{MAX-TEXT-EVENTS};
+ghost use Rattle.form.specs.Events.{kindOf, haltOperand, implied, halts, pushed};
+ghost use Rattle.form.specs.Decided.{MAX-TEXT-EVENTS};
 ghost use Rattle.text.specs.Answers.{tasksOf, STACK-CELLS, StackAfter, HaltsFit, added, addedOf};
 
 const HALT: u8 = 4;

@@ -11,8 +11,8 @@ use crate::limits::STACK_CELLS;
 use trace::Refusal;
 ghost use mathlib.Core.Path.{_≡_};
 ghost use Rattle.trace.specs.Slices.{slices};
-ghost use Rattle.text.specs.Decided.{DecidedBy};
-ghost use Rattle.text.specs.Translation.{malformedAt, tooManyAt, translation, translated};
+ghost use Rattle.form.specs.Decided.{DecidedBy};
+ghost use Rattle.form.specs.Translation.{malformedAt, tooManyAt, translation, translated};
 ghost use Rattle.text.specs.Answers.{attemptOf, attempted, translatedOf};
 
 // What a text comes to: the number of its events, or why it is turned back.

@@ -1,7 +1,6 @@
 // The sizes that the library and its callers share.
 
-// "text makes over 2,048 events" is refused: the size of the three slices.
-pub const MAX_TEXT_EVENTS: usize = 2048;
+pub use form::MAX_TEXT_EVENTS;
 
 // The stack has room for task 0 and a task for each event.
 pub const STACK_CELLS: usize = 2049;

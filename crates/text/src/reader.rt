@@ -4,7 +4,7 @@ use crate::cursor::Cursor;
 use crate::cursor::LineToken;
 ghost use mathlib.Core.Path.{_≡_};
 ghost use lib.ListN.{drop};
-ghost use Rattle.text.specs.Reading.{line};
+ghost use Rattle.form.specs.Reading.{line};
 ghost use Rattle.text.specs.Answers.{afterLine};
 
 pub struct Reader<'a> {

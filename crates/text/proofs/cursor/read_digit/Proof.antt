@@ -1,7 +1,7 @@
 -- `text::cursor::read_digit` meets its contract: each `return` is a row of `digit`. Assumes nothing.
 use borrow.Author.Needs.{needs}
 use borrow.Author.Tests.{lt-ltb, le-ltb}
-use Rattle.text.specs.Reading.{digit}
+use Rattle.form.specs.Reading.{digit}
 use Rattle.text.proofs.cursor.read_digit.Statement.{statement}
 use Rattle.text.proofs.cursor.read_digit.Tie as tie
 

@@ -1,6 +1,6 @@
 -- `text::events::halt_operand` meets its contract. Assumes nothing.
 use mathlib.Core.Path.{refl}
-use Rattle.text.specs.Events.{haltOperand}
+use Rattle.form.specs.Events.{haltOperand}
 use Rattle.text.proofs.events.halt_operand.Statement.{statement}
 use Rattle.text.proofs.events.halt_operand.Tie as tie
 

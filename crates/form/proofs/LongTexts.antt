@@ -11,16 +11,16 @@ use lib.Seq.{take-append-add}
 use borrow.Author.Tests.{ltb-false}
 use Rattle.trace.specs.Slices.{Slices}
 use Rattle.trace.proofs.Tests.{by-test}
-use Rattle.text.specs.Form.{print}
-use Rattle.text.specs.Reading.{line, parse}
-use Rattle.text.specs.Events.{eventsOf, stackAfter}
-use Rattle.text.specs.Decided.{MAX-TEXT-EVENTS}
-use Rattle.text.specs.Translation.{eventsFrom, FIRST-LINE, translation, translated}
-use Rattle.text.specs.declared.cursor.Line.{Line}
-use Rattle.text.proofs.Tokens.{by-token}
-use Rattle.text.proofs.Lines.{line-print, line-printed, length-print}
-use Rattle.text.proofs.Parsing.{length-after-line, parse-none, parse-line}
-use Rattle.text.proofs.StackLaws.{length-events}
+use Rattle.form.specs.Form.{print}
+use Rattle.form.specs.Reading.{line, parse}
+use Rattle.form.specs.Events.{eventsOf, stackAfter}
+use Rattle.form.specs.Decided.{MAX-TEXT-EVENTS}
+use Rattle.form.specs.Translation.{eventsFrom, FIRST-LINE, translation, translated}
+use Rattle.form.specs.declared.Line.{Line}
+use Rattle.form.proofs.Tokens.{by-token}
+use Rattle.form.proofs.Lines.{line-print, line-printed, length-print}
+use Rattle.form.proofs.Parsing.{length-after-line, parse-none, parse-line}
+use Rattle.form.proofs.EventCounts.{length-events}
 
 line-take-none : (m : ℕ) (s : List ℕ) → line s ≡ none → line (take m s) ≡ none
 line-take-none m s e =

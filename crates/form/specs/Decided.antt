@@ -8,9 +8,9 @@ use lib.ListN.{length}
 use Rattle.trace.specs.Trace.{Event}
 use Rattle.trace.specs.Slices.{Slices, storeAll}
 use Rattle.trace.specs.Outcome.{Reply, says, refused}
-use Rattle.text.specs.Form.{print, InRange, LinesBefore, OfForm, BeginsWithNoLine}
-use Rattle.text.specs.Events.{eventsOfText}
-use Rattle.text.specs.declared.cursor.Line.{Line}
+use Rattle.form.specs.Form.{print, InRange, LinesBefore, OfForm, BeginsWithNoLine}
+use Rattle.form.specs.Events.{eventsOfText}
+use Rattle.form.specs.declared.Line.{Line}
 
 -- "text makes over 2,048 events"
 abbrev pub MAX-TEXT-EVENTS : ℕ

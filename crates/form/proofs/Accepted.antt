@@ -12,10 +12,10 @@ use Rattle.trace.specs.Outcome.{Reply, says, refused}
 use Rattle.trace.specs.Slices.{Slices}
 use Rattle.trace.proofs.Tests.{by-test}
 use Rattle.trace.proofs.Slices.{After, slices-hold}
-use Rattle.text.specs.Reading.{Parsed, ends, malformed, line-then, parse}
-use Rattle.text.specs.Events.{eventsOf, stackAfter}
-use Rattle.text.specs.Decided.{MAX-TEXT-EVENTS}
-use Rattle.text.specs.Translation.{prepend, eventsFrom, FIRST-LINE, translation, translated}
+use Rattle.form.specs.Reading.{Parsed, ends, malformed, line-then, parse}
+use Rattle.form.specs.Events.{eventsOf, stackAfter}
+use Rattle.form.specs.Decided.{MAX-TEXT-EVENTS}
+use Rattle.form.specs.Translation.{prepend, eventsFrom, FIRST-LINE, translation, translated}
 
 -- ---- the number of events
 

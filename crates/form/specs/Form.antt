@@ -5,9 +5,9 @@ use mathlib.Core.Path.{_≡_}
 use mathlib.Core.Bool.{cond}
 use mathlib.Core.List.{List, [], _∷_, _++_}
 use lib.Dec.{ltb}
-use Rattle.text.specs.declared.cursor.Line.{Line}
-use Rattle.text.specs.declared.cursor.Operation.{Operation}
-use Rattle.text.specs.declared.cursor.Operation.the-variants.{Read, Write, Fork, Join}
+use Rattle.form.specs.declared.Line.{Line}
+use Rattle.form.specs.declared.Operation.{Operation}
+use Rattle.form.specs.declared.Operation.the-variants.{Read, Write, Fork, Join}
 
 -- n in base ten with no leading zero, in at most `suc more` digits.
 abbrev pub digits : ℕ → ℕ → List ℕ

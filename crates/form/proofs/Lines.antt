@@ -9,13 +9,13 @@ use lib.Dec.{eqb}
 use lib.ListN.{length, length-append}
 use borrow.Author.Tests.{eqb-true, eq-eqb}
 use Rattle.trace.proofs.Tests.{by-test}
-use Rattle.text.specs.Form.{decimal, GREATEST, opening, print, InRange}
-use Rattle.text.specs.Reading.{word, digit, opens, operation, field, line}
-use Rattle.text.specs.declared.cursor.Line.{Line}
-use Rattle.text.specs.declared.cursor.Operation.{Operation}
-use Rattle.text.specs.declared.cursor.Operation.the-variants.{Read, Write, Fork, Join}
-use Rattle.text.proofs.Tokens.{Each, nothing, found, each-some, each-map, each-then, each-else}
-use Rattle.text.proofs.Decimal.{number-decimal, number-printed, length-decimal}
+use Rattle.form.specs.Form.{decimal, GREATEST, opening, print, InRange}
+use Rattle.form.specs.Reading.{word, digit, opens, operation, field, line}
+use Rattle.form.specs.declared.Line.{Line}
+use Rattle.form.specs.declared.Operation.{Operation}
+use Rattle.form.specs.declared.Operation.the-variants.{Read, Write, Fork, Join}
+use Rattle.form.proofs.Tokens.{Each, nothing, found, each-some, each-map, each-then, each-else}
+use Rattle.form.proofs.Decimal.{number-decimal, number-printed, length-decimal}
 
 -- ---- what is printed is read
 

@@ -1,7 +1,7 @@
 -- Tokens that may be missing: case analysis, and what holds of a token if there is one. Assumes nothing.
 use mathlib.Core.Path.{_≡_, refl}
 use mathlib.Core.Option.{Option, none, some}
-use Rattle.text.specs.Options.{_then_, _else_}
+use Rattle.form.specs.Options.{_then_, _else_}
 
 -- Case analysis, the scrutinee first.
 pub by-token : {A C : Type 0} (o : Option A) → (o ≡ none → C) → ((a : A) → o ≡ some a → C) → C

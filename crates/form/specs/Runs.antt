@@ -4,13 +4,13 @@ use mathlib.Core.Path.{_≡_, refl}
 use mathlib.Core.List.{List, [], _∷_, _++_}
 use Rattle.trace.specs.Trace.{Event}
 use Rattle.trace.specs.Outcome.{Reply, says, refused}
-use Rattle.text.specs.Form.{decimal, printAll}
-use Rattle.text.specs.Reading.{digit, isWhole, tooLarge, extended, field, line, parse}
-use Rattle.text.specs.Events.{haltOperand, eventsOf, stackAfter}
-use Rattle.text.specs.Translation.{translation}
-use Rattle.text.specs.declared.cursor.Line.{Line}
-use Rattle.text.specs.declared.cursor.Operation.{Operation}
-use Rattle.text.specs.declared.cursor.Operation.the-variants.{Read, Write, Fork, Join}
+use Rattle.form.specs.Form.{decimal, printAll}
+use Rattle.form.specs.Reading.{digit, isWhole, tooLarge, extended, field, line, parse}
+use Rattle.form.specs.Events.{haltOperand, eventsOf, stackAfter}
+use Rattle.form.specs.Translation.{translation}
+use Rattle.form.specs.declared.Line.{Line}
+use Rattle.form.specs.declared.Operation.{Operation}
+use Rattle.form.specs.declared.Operation.the-variants.{Read, Write, Fork, Join}
 
 abbrev lineOf : ℕ → Operation → ℕ → ℕ → Line
 lineOf task operation operand source = record { task = task; operation = operation; operand = operand; source = source }

@@ -6,11 +6,11 @@ use mathlib.Core.List.{List, [], _∷_}
 use mathlib.Core.Option.{Option, none, some}
 use lib.Dec.{ltb, eqb}
 use lib.ListN.{length}
-use Rattle.text.specs.Options.{maybe, _then_, _else_}
-use Rattle.text.specs.Form.{GREATEST, opening}
-use Rattle.text.specs.declared.cursor.Line.{Line}
-use Rattle.text.specs.declared.cursor.Operation.{Operation}
-use Rattle.text.specs.declared.cursor.Operation.the-variants.{Read, Write, Fork, Join}
+use Rattle.form.specs.Options.{maybe, _then_, _else_}
+use Rattle.form.specs.Form.{GREATEST, opening}
+use Rattle.form.specs.declared.Line.{Line}
+use Rattle.form.specs.declared.Operation.{Operation}
+use Rattle.form.specs.declared.Operation.the-variants.{Read, Write, Fork, Join}
 
 -- A token and the bytes after it, or none: "the first byte that doesn't fit gives 14".
 abbrev pub Token : Type 0 → Type 0

@@ -9,9 +9,9 @@ use lib.Dec.{ltb}
 use lib.ListN.{length, length-append}
 use borrow.Author.Tests.{ltb-true, ltb-false, lt-ltb, le-ltb}
 use Rattle.trace.proofs.Tests.{by-test, Tests, tests-fails, tests-false, test-eq, test-lt}
-use Rattle.text.specs.Form.{digits, decimal, GREATEST}
-use Rattle.text.specs.Reading.{digit, isWhole, tooLarge, extended, scan, number}
-use Rattle.text.proofs.Tokens.{by-token, Each, nothing, found, each-some}
+use Rattle.form.specs.Form.{digits, decimal, GREATEST}
+use Rattle.form.specs.Reading.{digit, isWhole, tooLarge, extended, scan, number}
+use Rattle.form.proofs.Tokens.{by-token, Each, nothing, found, each-some}
 
 -- ---- the digits of a number
 

@@ -6,10 +6,10 @@ use mathlib.Core.Option.{Option, none, some}
 use lib.Dec.{eqb}
 use lib.ListN.{drop}
 use Rattle.trace.specs.Trace.{Event, READ, WRITE, FORK, JOIN, HALT}
-use Rattle.text.specs.Options.{maybe, _then_}
-use Rattle.text.specs.declared.cursor.Line.{Line}
-use Rattle.text.specs.declared.cursor.Operation.{Operation}
-use Rattle.text.specs.declared.cursor.Operation.the-variants.{Read, Write, Fork, Join}
+use Rattle.form.specs.Options.{maybe, _then_}
+use Rattle.form.specs.declared.Line.{Line}
+use Rattle.form.specs.declared.Operation.{Operation}
+use Rattle.form.specs.declared.Operation.the-variants.{Read, Write, Fork, Join}
 
 -- "Kinds are 0 read, 1 write, 2 fork, 3 join, 4 halt."
 abbrev pub kindOf : Operation → ℕ

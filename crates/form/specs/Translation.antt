@@ -9,9 +9,9 @@ use Rattle.trace.specs.Trace.{Event}
 use Rattle.trace.specs.Slices.{Slices}
 use Rattle.trace.specs.Outcome.{Reply, says, refused}
 use Rattle.trace.specs.declared.Refusal.{Refusal}
-use Rattle.text.specs.Events.{eventsOf, stackAfter}
-use Rattle.text.specs.Decided.{MAX-TEXT-EVENTS, Translated, leaving}
-use Rattle.text.specs.Reading.{Parsed, ends, malformed, line-then, parse}
+use Rattle.form.specs.Events.{eventsOf, stackAfter}
+use Rattle.form.specs.Decided.{MAX-TEXT-EVENTS, Translated, leaving}
+use Rattle.form.specs.Reading.{Parsed, ends, malformed, line-then, parse}
 
 -- Row 14 at a line: "a line isn't of the text form".
 abbrev pub malformedAt : ℕ → Refusal

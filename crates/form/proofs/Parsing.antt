@@ -6,10 +6,10 @@ use mathlib.Core.Path.{_≡_, refl, ap}
 use mathlib.Core.List.{List, [], _∷_}
 use mathlib.Core.Option.{none, some}
 use lib.ListN.{length, length-append}
-use Rattle.text.specs.Reading.{line, ends, malformed, line-then, parseWithin, parse}
-use Rattle.text.specs.declared.cursor.Line.{Line}
-use Rattle.text.proofs.Tokens.{by-token}
-use Rattle.text.proofs.Lines.{line-printed}
+use Rattle.form.specs.Reading.{line, ends, malformed, line-then, parseWithin, parse}
+use Rattle.form.specs.declared.Line.{Line}
+use Rattle.form.proofs.Tokens.{by-token}
+use Rattle.form.proofs.Lines.{line-printed}
 
 -- A line takes a byte at least.
 pub length-after-line : (s : List ℕ) (l : Line) (rest : List ℕ) → line s ≡ some (l, rest) → length rest < length s
