@@ -1,8 +1,11 @@
 // The buffers that a call is lent: dirty before it, and afterwards held to what the call must leave, with some cells behind those that are lent.
 use crate::Call;
+use crate::FIRST;
 use crate::RACE;
 use crate::REFUSED;
 use crate::Reply;
+use crate::SECOND;
+use crate::WORKSPACE;
 use test_cells::get;
 use test_cells::get_word;
 use test_cells::least;
@@ -35,27 +38,55 @@ pub fn soil(cells: &mut [u16], lent: usize, salt: usize) {
     }
 }
 
-// What a cell must hold: one of the first cells that of the memory from a place on, another its dirt.
-fn expected(memory: &[usize], from: usize, first: usize, i: usize, salt: usize) -> usize {
-    if i < first {
-        return get_word(memory, plus(from, i));
+// What a buffer must hold, of which so many cells are lent: in its first cells those of the memory from a place on, in the others the dirt of the salt. But
+// one cell, if it is there, is expected wrong.
+struct Expected {
+    lent: usize,
+    salt: usize,
+    from: usize,
+    first: usize,
+    wrong: usize,
+}
+
+// More cells than any buffer has.
+const NOWHERE: usize = 65536;
+
+fn expect(call: Call, buffer: usize, lent: usize, from: usize, first: usize) -> Expected {
+    let wrong = if call.plant.buffer == buffer {
+        call.plant.cell
+    } else {
+        NOWHERE
+    };
+    Expected {
+        lent,
+        salt: call.salt,
+        from,
+        first,
+        wrong,
     }
-    dirt(i, salt)
+}
+
+fn right_cell(memory: &[usize], expected: Expected, i: usize) -> usize {
+    if i < expected.first {
+        return get_word(memory, plus(expected.from, i));
+    }
+    dirt(i, expected.salt)
+}
+
+fn expected_cell(memory: &[usize], expected: Expected, i: usize) -> usize {
+    let cell = right_cell(memory, expected, i);
+    if i == expected.wrong {
+        return more(cell);
+    }
+    cell
 }
 
 // Whether the lent cells, and some behind them, are as expected.
-fn holds(
-    cells: &[u16],
-    lent: usize,
-    salt: usize,
-    memory: &[usize],
-    from: usize,
-    first: usize,
-) -> bool {
-    let n = least(plus(lent, SPARE), cells.len());
+fn holds(cells: &[u16], memory: &[usize], expected: Expected) -> bool {
+    let n = least(plus(expected.lent, SPARE), cells.len());
     let mut i = 0;
     while i < n {
-        if get(cells, i) != expected(memory, from, first, i, salt) {
+        if get(cells, i) != expected_cell(memory, expected, i) {
             return false;
         }
         i += 1;
@@ -68,11 +99,8 @@ pub fn holds_zeros(ws: &[u16], call: Call, want: Reply, memory: &[usize]) -> boo
     let zeros = test_slow::cleared(minus(want.case, REFUSED), call.sizes.kinds);
     holds(
         ws,
-        call.sizes.ws,
-        call.salt,
         memory,
-        test_slow::MEMORY,
-        zeros,
+        expect(call, WORKSPACE, call.sizes.ws, test_slow::MEMORY, zeros),
     )
 }
 
@@ -85,22 +113,13 @@ pub fn holds_orders(
     memory: &[usize],
 ) -> bool {
     let n = if want.case == RACE { more(want.b) } else { 0 };
-    if !holds(
-        first,
-        call.sizes.first,
-        call.salt,
-        memory,
-        test_slow::ORDERS,
-        n,
-    ) {
-        return false;
-    }
-    holds(
-        second,
+    let one = expect(call, FIRST, call.sizes.first, test_slow::ORDERS, n);
+    let other = expect(
+        call,
+        SECOND,
         call.sizes.second,
-        call.salt,
-        memory,
         plus(test_slow::ORDERS, n),
         n,
-    )
+    );
+    holds(first, memory, one) & holds(second, memory, other)
 }

@@ -67,6 +67,18 @@ pub fn read_runs(cells: &mut [u16]) -> usize {
     )
 }
 
+// One of these runs, told wrong: the answer, a cell of the first order, a cell of the second.
+pub fn read_wrong_runs(cells: &mut [u16]) -> usize {
+    read_table(
+        b"
+5 5 RACE 2 4: 0 fork 1, 1 write 5, 1 write 5, 1 halt 0, 0 read 5; 0 1 4 2 3; 0 4 1 2 3
+5 5 RACE 1 4: 0 fork 1, 1 write 5, 1 write 5, 1 halt 0, 0 read 5; 1 1 4 2 3; 0 4 1 2 3
+5 5 RACE 1 4: 0 fork 1, 1 write 5, 1 write 5, 1 halt 0, 0 read 5; 0 1 4 2 3; 0 4 1 2 4
+",
+        cells,
+    )
+}
+
 // The answer that the table tells of the run at a cell.
 pub fn told(cells: &[u16], at: usize) -> Reply {
     let verdict = get(cells, plus(at, 2));

@@ -2,6 +2,7 @@
 use crate::Call;
 use crate::Reply;
 use crate::make_reply;
+use crate::wanting;
 use test_cells::plus;
 use test_cells::put_word;
 use test_samples::events::Event;
@@ -24,26 +25,12 @@ fn full() -> Sizes {
 }
 
 pub fn judging(want: Reply) -> Call {
-    Call {
-        ordering: false,
-        p: 0,
-        q: 0,
-        sizes: full(),
-        salt: 3,
-        want,
-    }
+    wanting(crate::judging(full(), 3), want)
 }
 
 // Whether position p reaches the last.
 pub fn asking(p: usize, case: usize) -> Call {
-    Call {
-        ordering: true,
-        p,
-        q: 32767,
-        sizes: full(),
-        salt: 7,
-        want: make_reply(case, 0, 0),
-    }
+    wanting(crate::asking(full(), p, 32767, 7), make_reply(case, 0, 0))
 }
 
 pub fn put_one(events: &mut [u16], p: usize, task: usize, kind: usize, operand: usize) {

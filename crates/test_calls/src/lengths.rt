@@ -1,13 +1,11 @@
 // Rows 1 to 4 of document 01's table, as a table of the lengths of slices.
 use crate::CLEAN;
 use crate::REFUSED;
+use crate::table::CELLS;
 use crate::table::read_table;
 use test_cells::get;
 use test_cells::plus;
 use test_slow::Sizes;
-
-// How many cells a run has.
-pub const CELLS: usize = 7;
 
 // Of each run the lengths of the six slices, and the row by which it is refused, or 0. Answers how many cells the table has, as read_table does.
 pub fn read_runs(cells: &mut [u16]) -> usize {

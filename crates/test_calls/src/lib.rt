@@ -5,7 +5,8 @@ pub mod known;
 pub mod large;
 pub mod lengths;
 pub mod lines;
-mod table;
+pub mod plants;
+pub mod table;
 
 use test_cells::plus;
 use test_slow::Sizes;
@@ -70,6 +71,28 @@ pub fn same_reply(x: Reply, y: Reply) -> bool {
     x.b == y.b
 }
 
+// The reply of a call if it is the wanted one and the cells are as wanted too, else MISMATCH.
+pub fn reply_held(reply: Reply, want: Reply, cells: bool) -> Reply {
+    if same_reply(reply, want) & cells {
+        return reply;
+    }
+    make_reply(MISMATCH, 0, 0)
+}
+
+// A cell of a buffer that is expected wrong, on purpose: the comparison must notice it.
+pub struct Plant {
+    pub buffer: usize,
+    pub cell: usize,
+}
+
+pub const NO_BUFFER: usize = 0;
+
+pub const WORKSPACE: usize = 1;
+
+pub const FIRST: usize = 2;
+
+pub const SECOND: usize = 3;
+
 // A call: of the judge, or of the ordering call for p and q; how many cells it is lent; a salt for the dirt; and what must come of it, where that is told.
 pub struct Call {
     pub ordering: bool,
@@ -78,6 +101,7 @@ pub struct Call {
     pub sizes: Sizes,
     pub salt: usize,
     pub want: Reply,
+    pub plant: Plant,
 }
 
 pub fn judging(sizes: Sizes, salt: usize) -> Call {
@@ -88,18 +112,25 @@ pub fn judging(sizes: Sizes, salt: usize) -> Call {
         sizes,
         salt,
         want: make_reply(UNTOLD, 0, 0),
+        plant: Plant {
+            buffer: NO_BUFFER,
+            cell: 0,
+        },
     }
 }
 
 pub fn asking(sizes: Sizes, p: usize, q: usize, salt: usize) -> Call {
-    Call {
-        ordering: true,
-        p,
-        q,
-        sizes,
-        salt,
-        want: make_reply(UNTOLD, 0, 0),
-    }
+    let mut call = judging(sizes, salt);
+    call.ordering = true;
+    call.p = p;
+    call.q = q;
+    call
+}
+
+// The call with what must come of it told.
+pub fn wanting(mut call: Call, want: Reply) -> Call {
+    call.want = want;
+    call
 }
 
 // What must come of a call: what is told with it, or else what the slow one answers.

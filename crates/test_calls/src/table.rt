@@ -1,9 +1,27 @@
-// Tables as text: numbers in base ten, and a word for each kind of event and each verdict. Each makes a cell; what stands between them makes none, and a
+// Tables as text: numbers in base ten, and a word for each kind of event, each verdict, each call and each buffer. Each makes a cell; what stands between them makes none, and a
 // comment goes from # to the end of its line.
+use crate::CLEAN;
+use crate::FIRST;
+use crate::NO;
+use crate::NO_BUFFER;
+use crate::RACE;
+use crate::REFUSED;
+use crate::SECOND;
+use crate::UNTOLD;
+use crate::WORKSPACE;
+use crate::YES;
 use test_cells::least;
 use test_cells::more;
 use test_cells::plus;
 use test_cells::put;
+use test_samples::events::FORK;
+use test_samples::events::HALT;
+use test_samples::events::JOIN;
+use test_samples::events::READ;
+use test_samples::events::WRITE;
+
+// How many cells a row has in the tables whose rows have all as many.
+pub const CELLS: usize = 7;
 
 // What an unknown word is: more than a cell holds.
 const UNKNOWN: usize = 65536;
@@ -12,15 +30,26 @@ const UNKNOWN: usize = 65536;
 fn number_of(word: usize) -> usize {
     match word {
         // read, write, fork, join, halt
-        0x72656164 => 0,
-        0x7772697465 => 1,
-        0x666f726b => 2,
-        0x6a6f696e => 3,
-        0x68616c74 => 4,
-        // CLEAN, RACE, REFUSED
-        0x434c45414e => 0,
-        0x52414345 => 1,
-        0x52454655534544 => 2,
+        0x72656164 => READ,
+        0x7772697465 => WRITE,
+        0x666f726b => FORK,
+        0x6a6f696e => JOIN,
+        0x68616c74 => HALT,
+        // CLEAN, RACE, YES, NO, REFUSED, SLOW
+        0x434c45414e => CLEAN,
+        0x52414345 => RACE,
+        0x594553 => YES,
+        0x4e4f => NO,
+        0x52454655534544 => REFUSED,
+        0x534c4f57 => UNTOLD,
+        // judge, order
+        0x6a75646765 => 0,
+        0x6f72646572 => 1,
+        // none, ws, first, second
+        0x6e6f6e65 => NO_BUFFER,
+        0x7773 => WORKSPACE,
+        0x6669727374 => FIRST,
+        0x7365636f6e64 => SECOND,
         _ => UNKNOWN,
     }
 }

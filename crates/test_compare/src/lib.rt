@@ -6,10 +6,9 @@ use test_calls::Reply;
 use test_calls::buffers::holds_orders;
 use test_calls::buffers::holds_zeros;
 use test_calls::buffers::soil;
-use test_calls::make_reply;
+use test_calls::reply_held;
 use test_calls::reply_of_answer;
 use test_calls::reply_of_ordering;
-use test_calls::same_reply;
 use test_calls::wanted;
 use test_cells::least;
 use test_samples::events::lay;
@@ -51,17 +50,17 @@ fn judged_in(
     call: Call,
     want: Reply,
     memory: &[usize],
-) -> bool {
+) -> Reply {
     soil(ws, call.sizes.ws, call.salt);
     soil(first, call.sizes.first, call.salt);
     soil(second, call.sizes.second, call.salt);
     let answer = judge(kinds, tasks, operands, ws, first, second, call.sizes);
     let zeros = holds_zeros(ws, call, want, memory);
     let orders = holds_orders(first, second, call, want, memory);
-    same_reply(answer, want) & zeros & orders
+    reply_held(answer, want, zeros & orders)
 }
 
-// Whether the judge does as wanted. Arrays are lent whole as arrays: as slices each would have its length proved.
+// The judge's answer, or MISMATCH. Arrays are lent whole as arrays: as slices each would have its length proved.
 fn judged(
     kinds: &[u8],
     tasks: &[u16],
@@ -69,7 +68,7 @@ fn judged(
     call: Call,
     want: Reply,
     memory: &[usize],
-) -> bool {
+) -> Reply {
     let mut ws = [0u16; 45100];
     let mut first = [0u16; 32800];
     let mut second = [0u16; 32800];
@@ -101,14 +100,14 @@ fn ordered_in(
     call: Call,
     want: Reply,
     memory: &[usize],
-) -> bool {
+) -> Reply {
     soil(ws, call.sizes.ws, call.salt);
     let answer = order(kinds, tasks, operands, ws, call);
     let zeros = holds_zeros(ws, call, want, memory);
-    same_reply(answer, want) & zeros
+    reply_held(answer, want, zeros)
 }
 
-// Whether the ordering call does as wanted.
+// The ordering call's answer, or MISMATCH.
 fn ordered(
     kinds: &[u8],
     tasks: &[u16],
@@ -116,26 +115,12 @@ fn ordered(
     call: Call,
     want: Reply,
     memory: &[usize],
-) -> bool {
+) -> Reply {
     let mut ws = [0u16; 45100];
     ordered_in(kinds, tasks, operands, &mut ws, call, want, memory)
 }
 
 // ---- both
-
-fn done(
-    kinds: &[u8],
-    tasks: &[u16],
-    operands: &[u16],
-    call: Call,
-    want: Reply,
-    memory: &[usize],
-) -> bool {
-    if call.ordering {
-        return ordered(kinds, tasks, operands, call, want, memory);
-    }
-    judged(kinds, tasks, operands, call, want, memory)
-}
 
 fn compared(
     kinds: &[u8],
@@ -145,10 +130,10 @@ fn compared(
     memory: &mut [usize],
 ) -> Reply {
     let want = wanted(kinds, tasks, operands, call, memory);
-    if done(kinds, tasks, operands, call, want, memory) {
-        return want;
+    if call.ordering {
+        return ordered(kinds, tasks, operands, call, want, memory);
     }
-    make_reply(MISMATCH, 0, 0)
+    judged(kinds, tasks, operands, call, want, memory)
 }
 
 fn compare_cut(
@@ -176,10 +161,15 @@ fn compare_in(
     compare_cut(kinds, tasks, operands, call, memory)
 }
 
-// The answer to a call on a trace of these events, or MISMATCH. Behind the events the slices hold reads of location 0 by task 0.
+// What the call itself answers on a trace of these events, not what it should; or MISMATCH. Behind the events the slices hold reads of location 0 by task 0.
 pub fn compare(events: &[u16], call: Call, memory: &mut [usize]) -> Reply {
     let mut kinds = [0u8; 32800];
     let mut tasks = [0u16; 32800];
     let mut operands = [0u16; 32800];
     compare_in(events, &mut kinds, &mut tasks, &mut operands, call, memory)
+}
+
+// Whether the call does as it must.
+pub fn agrees(events: &[u16], call: Call, memory: &mut [usize]) -> bool {
+    compare(events, call, memory).case != MISMATCH
 }

@@ -1,7 +1,5 @@
 // Traces of 32,768 events, too many for the slow judge: what must come of them is written out here.
 use test_calls::CLEAN;
-use test_calls::Call;
-use test_calls::MISMATCH;
 use test_calls::NO;
 use test_calls::RACE;
 use test_calls::YES;
@@ -11,23 +9,18 @@ use test_calls::large::lay_race;
 use test_calls::large::put_orders;
 use test_calls::make_reply;
 use test_cells::more;
-use test_compare::compare;
+use test_compare::agrees;
 
-// Whether a call on these events, and reads by task 0 behind them, comes out as told.
-fn answers(events: &[u16], call: Call, memory: &mut [usize]) -> bool {
-    compare(events, call, memory).case != MISMATCH
-}
-
-// "32,768 reads by task 0: clean"
+// "32,768 reads by task 0: clean". Behind the events of a call stand reads by task 0.
 fn reads(memory: &mut [usize]) -> bool {
     let events = [0u16; 3];
-    answers(&events, judging(make_reply(CLEAN, 0, 0)), memory)
+    agrees(&events, judging(make_reply(CLEAN, 0, 0)), memory)
 }
 
 // A race of the last event with the second.
 fn race(events: &[u16], memory: &mut [usize]) -> bool {
     put_orders(memory);
-    answers(events, judging(make_reply(RACE, 1, 32767)), memory)
+    agrees(events, judging(make_reply(RACE, 1, 32767)), memory)
 }
 
 // How many of three hold, one after the other.
@@ -47,8 +40,8 @@ pub fn held(first: bool, second: bool, third: bool) -> usize {
 // The race, and that the fork reaches the last event and the child's write does not: how many hold, one after the other.
 fn race_and_pairs(events: &[u16], memory: &mut [usize]) -> usize {
     let first = race(events, memory);
-    let second = answers(events, asking(0, YES), memory);
-    let third = answers(events, asking(1, NO), memory);
+    let second = agrees(events, asking(0, YES), memory);
+    let third = agrees(events, asking(1, NO), memory);
     held(first, second, third)
 }
 

@@ -3,8 +3,10 @@ mod known;
 mod large;
 mod lines;
 mod outcome;
+mod plants;
 mod random;
 mod sizes;
+mod tables;
 
 use libc::STDOUT_FILENO;
 use outcome::Outcome;
@@ -18,12 +20,21 @@ fn print(text: &[u8], n: usize) {
     io::write_all(STDOUT_FILENO, b"\n");
 }
 
-fn told(text: &[u8], outcome: Outcome) -> bool {
+// Whether all came out well; else the first that did not is told by its number.
+fn told(text: &[u8], fault: &[u8], outcome: Outcome) -> bool {
     print(text, outcome.agreed);
     if !outcome.all {
-        print(b"MISMATCH at number ", outcome.agreed);
+        print(fault, outcome.agreed);
     }
     outcome.all
+}
+
+fn all_agree(text: &[u8], outcome: Outcome) -> bool {
+    told(text, b"MISMATCH at number ", outcome)
+}
+
+fn all_noticed(text: &[u8], outcome: Outcome) -> bool {
+    told(text, b"NOT NOTICED: number ", outcome)
 }
 
 fn print_refusal(counts: [usize; 65], from: usize, number: usize) {
@@ -68,7 +79,7 @@ fn try_random(memory: &mut [usize]) {
     let trials = random::try_all(memory);
     let counts = trials.counts;
     let all = trials.agreed == random::TRACES;
-    if told(b"traces at random: ", make_outcome(trials.agreed, all)) {
+    if all_agree(b"traces at random: ", make_outcome(trials.agreed, all)) {
         print_judge(counts);
         print_ordering(counts);
         io::write_all(STDOUT_FILENO, b"all answers and all cells agree\n");
@@ -76,16 +87,30 @@ fn try_random(memory: &mut [usize]) {
 }
 
 fn try_known(memory: &mut [usize]) -> bool {
-    told(b"runs that document 01 tells: ", known::try_all(memory))
+    all_agree(b"runs that document 01 tells: ", known::try_all(memory))
+}
+
+fn try_wrong(memory: &mut [usize]) -> bool {
+    all_noticed(
+        b"runs told wrong that were noticed: ",
+        known::try_wrong(memory),
+    )
+}
+
+fn try_plants(memory: &mut [usize]) -> bool {
+    all_noticed(
+        b"wrong expectations that were noticed: ",
+        plants::try_all(memory),
+    )
 }
 
 fn try_sizes(memory: &mut [usize]) -> bool {
-    told(b"lengths of slices: ", sizes::try_all(memory))
+    all_agree(b"lengths of slices: ", sizes::try_all(memory))
 }
 
 fn try_large(memory: &mut [usize]) -> bool {
     let agreed = large::agreed(memory);
-    told(
+    all_agree(
         b"calls on 32768 events: ",
         make_outcome(agreed, agreed == large::COUNT),
     )
@@ -93,7 +118,7 @@ fn try_large(memory: &mut [usize]) -> bool {
 
 fn try_lines(memory: &mut [usize]) -> bool {
     let agreed = lines::agreed(memory);
-    told(
+    all_agree(
         b"lines of 1024 tasks: ",
         make_outcome(agreed, agreed == lines::COUNT),
     )
@@ -101,6 +126,12 @@ fn try_lines(memory: &mut [usize]) -> bool {
 
 fn run(memory: &mut [usize; test_slow::MEMORY]) {
     if !try_known(memory) {
+        return;
+    }
+    if !try_wrong(memory) {
+        return;
+    }
+    if !try_plants(memory) {
         return;
     }
     if !try_sizes(memory) {

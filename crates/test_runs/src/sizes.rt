@@ -1,12 +1,11 @@
 // Rows 1 to 4 of document 01's table, and the largest traces: reads by task 0 in slices of many lengths.
 use crate::outcome::Outcome;
-use crate::outcome::make_outcome;
+use crate::tables::go_through;
 use test_calls::CLEAN;
 use test_calls::MISMATCH;
 use test_calls::REFUSED;
 use test_calls::asking;
 use test_calls::judging;
-use test_calls::lengths::CELLS;
 use test_calls::lengths::lengths;
 use test_calls::lengths::read_runs;
 use test_calls::lengths::told;
@@ -28,7 +27,7 @@ fn asked(sizes: Sizes, case: usize, events: &[u16], run: usize, memory: &mut [us
     same_reply(answer, make_reply(case, 0, 0))
 }
 
-fn agrees(cells: &[u16], run: usize, events: &[u16], memory: &mut [usize]) -> bool {
+pub fn run_agrees(cells: &[u16], run: usize, events: &[u16], memory: &mut [usize]) -> bool {
     let sizes = lengths(cells, run);
     let case = told(cells, run);
     let answer = compare(events, judging(sizes, run), memory);
@@ -36,23 +35,10 @@ fn agrees(cells: &[u16], run: usize, events: &[u16], memory: &mut [usize]) -> bo
     same_reply(answer, make_reply(case, 0, 0)) & also
 }
 
-// The table has so many cells: some, and none behind the last run's.
-fn go_through(cells: &[u16], count: usize, events: &[u16], memory: &mut [usize]) -> Outcome {
-    let runs = count / CELLS;
-    let mut run = 0;
-    while run < runs {
-        if !agrees(cells, run, events, memory) {
-            return make_outcome(run, false);
-        }
-        run += 1;
-    }
-    make_outcome(run, (count % CELLS == 0) & (0 < run))
-}
-
 // Every event is a read of location 0 by task 0.
 pub fn try_all(memory: &mut [usize]) -> Outcome {
     let mut cells = [0u16; 170];
     let count = read_runs(&mut cells);
     let reads = [0u16; 3];
-    go_through(&cells, count, &reads, memory)
+    go_through(&cells, count, false, &reads, memory)
 }

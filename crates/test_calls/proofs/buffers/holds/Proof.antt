@@ -5,10 +5,10 @@ use Rattle.test_calls.proofs.buffers.holds.Statement.{statement}
 use Rattle.test_calls.proofs.buffers.holds.Tie as tie
 
 abbrev Inv-loop : tie.InvT-loop
-Inv-loop cells lent salt memory from first n i₀ i = i ≤ n
+Inv-loop cells memory expected n i₀ i = i ≤ n
 
 abbrev μ-loop : tie.MeasureT-loop
-μ-loop cells lent salt memory from first n i₀ i = n - i
+μ-loop cells memory expected n i₀ i = n - i
 
 pub holds-spec : {M : Type 1} → statement M
 holds-spec =

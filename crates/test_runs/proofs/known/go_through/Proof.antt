@@ -7,10 +7,10 @@ use Rattle.test_runs.proofs.known.go_through.Statement.{statement}
 use Rattle.test_runs.proofs.known.go_through.Tie as tie
 
 abbrev Inv-loop : tie.InvT-loop
-Inv-loop cells count memory₀ at₀ i₀ memory at i = length memory ≡ length memory₀
+Inv-loop cells count right memory₀ at₀ i₀ memory at i = length memory ≡ length memory₀
 
 abbrev μ-loop : tie.MeasureT-loop
-μ-loop cells count memory₀ at₀ i₀ memory at i = count - at
+μ-loop cells count right memory₀ at₀ i₀ memory at i = count - at
 
 pub go-through-spec : {M : Type 1} → statement M
 go-through-spec =

@@ -1,16 +1,16 @@
--- `test_runs::sizes::go_through` is safe and ends. The measure is the number of runs that are left. Assumes nothing.
+-- `test_runs::tables::go_through` is safe and ends. The measure is the number of rows that are left. Assumes nothing.
 use Prim.Native.Nat.{_-_}
 use mathlib.Core.Path.{_≡_}
 use borrow.Author.Needs.{needs}
 use lib.ListN.{length}
-use Rattle.test_runs.proofs.sizes.go_through.Statement.{statement}
-use Rattle.test_runs.proofs.sizes.go_through.Tie as tie
+use Rattle.test_runs.proofs.tables.go_through.Statement.{statement}
+use Rattle.test_runs.proofs.tables.go_through.Tie as tie
 
 abbrev Inv-loop : tie.InvT-loop
-Inv-loop cells count events memory₀ runs run₀ memory run = length memory ≡ length memory₀
+Inv-loop cells count planted events memory₀ rows row₀ memory row = length memory ≡ length memory₀
 
 abbrev μ-loop : tie.MeasureT-loop
-μ-loop cells count events memory₀ runs run₀ memory run = runs - run
+μ-loop cells count planted events memory₀ rows row₀ memory row = rows - row
 
 pub go-through-spec : {M : Type 1} → statement M
 go-through-spec =
