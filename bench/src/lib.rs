@@ -3,7 +3,8 @@
 //! Reading order: `trace` (what goes in and comes out), `line` and `ancestors` (the slow judge,
 //! written from document 01 alone), `text` (the text form), `ffi` (the linked judges),
 //! `fasttrack` and `handwritten.c` (the peers), `rng`, `builder`, `workloads` and `samples` (the
-//! traces), `extent` (how near a trace comes to the limits), `program` (words, input and output).
+//! traces), `extent` (how near a trace comes to the limits), `program` and `words` (input, output
+//! and command lines).
 
 pub mod ancestors;
 pub mod builder;
@@ -17,4 +18,5 @@ pub mod rng;
 pub mod samples;
 pub mod text;
 pub mod trace;
+pub mod words;
 pub mod workloads;

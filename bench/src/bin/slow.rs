@@ -1,10 +1,11 @@
 //! The slow judge as a program: STD text on standard input, the answer on standard output, in the
 //! same form as the proved program, so that the two outputs can be compared.
 
-use racejudge_bench::program::{input, print, Words};
+use racejudge_bench::program::{input, print};
 use racejudge_bench::text;
+use racejudge_bench::words;
 
 fn main() {
-    Words::new("bench/slow < TEXT").end();
+    words::slow(words::given());
     print(&text::answer(&input()));
 }

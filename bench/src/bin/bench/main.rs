@@ -12,8 +12,9 @@ mod tables;
 
 use peers::{Peer, Peers, PEERS};
 use racejudge_bench::ffi;
-use racejudge_bench::program::{print, Words};
+use racejudge_bench::program::print;
 use racejudge_bench::rng::Rng;
+use racejudge_bench::words;
 use rows::Row;
 
 /// The matrix is timed on the first trace of a row only, and in the first rounds.
@@ -43,12 +44,7 @@ fn go_round(peers: &mut Peers, rows: &mut [Row], round: usize, matrix: bool, rng
 }
 
 fn main() {
-    let usage = "bench/run [--standin] [--rounds N] [--traces N] [--no-matrix]";
-    let mut words = Words::new(usage);
-    let (rounds, traces) = (words.number("--rounds", 60), words.number("--traces", 6));
-    let matrix = !words.has("--no-matrix");
-    words.end();
-
+    let words::Bench { rounds, traces, matrix } = words::bench(words::given());
     let mut rng = Rng::new(1);
     let mut peers = Peers::new();
     print(&format!("judge: {}\n", ffi::LINKED));

@@ -11,9 +11,10 @@ mod watch;
 use compare::{known, Test};
 use racejudge_bench::ffi;
 use racejudge_bench::line::Line;
-use racejudge_bench::program::{fail, print, Words};
+use racejudge_bench::program::{fail, print};
 use racejudge_bench::samples;
 use racejudge_bench::trace::*;
+use racejudge_bench::words;
 use racejudge_bench::workloads::WORKLOADS;
 
 /// Every trace of up to `more` further events over two locations, and each way to break a rule in
@@ -90,9 +91,7 @@ fn random_traces(test: &mut Test, times: usize) {
 }
 
 fn main() {
-    let mut words = Words::new("bench/test [--standin] [--seed N] [--times N]");
-    let (seed, times) = (words.number("--seed", 1), words.number("--times", 1));
-    words.end();
+    let words::Test { seed, times } = words::test(words::given());
     print(&format!("judge: {}\n", ffi::LINKED));
     watch::start();
     let mut test = Test::new(seed as u64);

@@ -1,0 +1,28 @@
+-- `test_calls::buffers::holds` is safe and ends. The measure is the number of cells that are left. Assumes nothing.
+use Prim.Native.Nat.{_≤_, _-_}
+use borrow.Author.Needs.{needs}
+use Rattle.test_calls.proofs.buffers.holds.Statement.{statement}
+use Rattle.test_calls.proofs.buffers.holds.Tie as tie
+
+abbrev Inv-loop : tie.InvT-loop
+Inv-loop cells memory expected n i₀ i = i ≤ n
+
+abbrev μ-loop : tie.MeasureT-loop
+μ-loop cells memory expected n i₀ i = n - i
+
+pub holds-spec : {M : Type 1} → statement M
+holds-spec =
+    tie.close
+    (tie.spec
+    Inv-loop
+    μ-loop
+    (λ c κs. search needs)
+    (λ c κs. search needs)
+    (λ c. search needs)
+    (λ c κs. search needs)
+    (λ c κs. search needs)
+    (λ c. search needs)
+    (λ c. search needs)
+    (λ c. search needs)
+    (λ c. search needs)
+    (λ c. search needs))

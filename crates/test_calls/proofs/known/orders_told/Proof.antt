@@ -1,0 +1,30 @@
+-- `test_calls::known::orders_told` is safe and ends. The measure is the number of cells that are left. Assumes nothing.
+use Prim.Native.Nat.{_≤_, _-_}
+use borrow.Author.Needs.{needs}
+use Rattle.test_calls.proofs.known.orders_told.Statement.{statement}
+use Rattle.test_calls.proofs.known.orders_told.Tie as tie
+
+abbrev Inv-loop : tie.InvT-loop
+Inv-loop cells at memory from n i₀ i = i ≤ n
+
+abbrev μ-loop : tie.MeasureT-loop
+μ-loop cells at memory from n i₀ i = n - i
+
+pub orders-told-spec : {M : Type 1} → statement M
+orders-told-spec =
+    tie.close
+    (tie.spec
+    Inv-loop
+    μ-loop
+    (λ c κs. search needs)
+    (λ c κs. search needs)
+    (λ c. search needs)
+    (λ c κs. search needs)
+    (λ c κs. search needs)
+    (λ c κs. search needs)
+    (λ c κs. search needs)
+    (λ c. search needs)
+    (λ c. search needs)
+    (λ c. search needs)
+    (λ c. search needs)
+    (λ c. search needs))

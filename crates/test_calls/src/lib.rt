@@ -1,0 +1,159 @@
+// The calls of the judge and of the ordering call that the test program makes, and what must come of each. Nothing here calls the fast judge.
+pub mod buffers;
+pub mod drawn;
+pub mod known;
+pub mod large;
+pub mod lengths;
+pub mod lines;
+pub mod plants;
+pub mod table;
+
+use test_cells::plus;
+use test_slow::Sizes;
+use trace::Answer;
+use trace::Ordering;
+use trace::Refusal;
+
+// An answer in numbers. The case is CLEAN, RACE or REFUSED + number for the judge, and YES, NO or REFUSED + number for the ordering call.
+pub struct Reply {
+    pub case: usize,
+    pub a: usize,
+    pub b: usize,
+}
+
+pub const CLEAN: usize = 0;
+
+pub const RACE: usize = 1;
+
+pub const YES: usize = 0;
+
+pub const NO: usize = 1;
+
+pub const REFUSED: usize = 2;
+
+// Not yet known: the slow judge is to say it.
+pub const UNTOLD: usize = 62;
+
+// The answer, or a cell, is not as it must be.
+pub const MISMATCH: usize = 63;
+
+pub fn make_reply(case: usize, a: usize, b: usize) -> Reply {
+    Reply { case, a, b }
+}
+
+fn reply_of_refusal(refusal: Refusal) -> Reply {
+    make_reply(plus(REFUSED, refusal.number), refusal.position, 0)
+}
+
+pub fn reply_of_answer(answer: Answer) -> Reply {
+    match answer {
+        Answer::Clean => make_reply(CLEAN, 0, 0),
+        Answer::Race(s, t) => make_reply(RACE, s, t),
+        Answer::Refused(refusal) => reply_of_refusal(refusal),
+    }
+}
+
+pub fn reply_of_ordering(ordering: Ordering) -> Reply {
+    match ordering {
+        Ordering::Yes => make_reply(YES, 0, 0),
+        Ordering::No => make_reply(NO, 0, 0),
+        Ordering::Refused(refusal) => reply_of_refusal(refusal),
+    }
+}
+
+pub fn same_reply(x: Reply, y: Reply) -> bool {
+    if x.case != y.case {
+        return false;
+    }
+    if x.a != y.a {
+        return false;
+    }
+    x.b == y.b
+}
+
+// The reply of a call if it is the wanted one and the cells are as wanted too, else MISMATCH.
+pub fn reply_held(reply: Reply, want: Reply, cells: bool) -> Reply {
+    if same_reply(reply, want) & cells {
+        return reply;
+    }
+    make_reply(MISMATCH, 0, 0)
+}
+
+// A cell of a buffer that is expected wrong, on purpose: the comparison must notice it.
+pub struct Plant {
+    pub buffer: usize,
+    pub cell: usize,
+}
+
+pub const NO_BUFFER: usize = 0;
+
+pub const WORKSPACE: usize = 1;
+
+pub const FIRST: usize = 2;
+
+pub const SECOND: usize = 3;
+
+// A call: of the judge, or of the ordering call for p and q; how many cells it is lent; a salt for the dirt; and what must come of it, where that is told.
+pub struct Call {
+    pub ordering: bool,
+    pub p: usize,
+    pub q: usize,
+    pub sizes: Sizes,
+    pub salt: usize,
+    pub want: Reply,
+    pub plant: Plant,
+}
+
+pub fn judging(sizes: Sizes, salt: usize) -> Call {
+    Call {
+        ordering: false,
+        p: 0,
+        q: 0,
+        sizes,
+        salt,
+        want: make_reply(UNTOLD, 0, 0),
+        plant: Plant {
+            buffer: NO_BUFFER,
+            cell: 0,
+        },
+    }
+}
+
+pub fn asking(sizes: Sizes, p: usize, q: usize, salt: usize) -> Call {
+    let mut call = judging(sizes, salt);
+    call.ordering = true;
+    call.p = p;
+    call.q = q;
+    call
+}
+
+// The call with what must come of it told.
+pub fn wanting(mut call: Call, want: Reply) -> Call {
+    call.want = want;
+    call
+}
+
+// What must come of a call: what is told with it, or else what the slow one answers.
+pub fn wanted(
+    kinds: &[u8],
+    tasks: &[u16],
+    operands: &[u16],
+    call: Call,
+    memory: &mut [usize],
+) -> Reply {
+    if call.want.case != UNTOLD {
+        return call.want;
+    }
+    if call.ordering {
+        return reply_of_ordering(test_slow::ordering(
+            kinds,
+            tasks,
+            operands,
+            call.sizes,
+            call.p,
+            call.q,
+            memory,
+        ));
+    }
+    reply_of_answer(test_slow::judge(kinds, tasks, operands, call.sizes, memory))
+}

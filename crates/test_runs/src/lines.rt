@@ -1,0 +1,76 @@
+// Traces that have all 1,024 tasks in the line at once: both judges and both ordering calls must answer as written here.
+use crate::large::held;
+use test_calls::CLEAN;
+use test_calls::Call;
+use test_calls::NO;
+use test_calls::RACE;
+use test_calls::REFUSED;
+use test_calls::Reply;
+use test_calls::YES;
+use test_calls::asking;
+use test_calls::judging;
+use test_calls::known::roomy;
+use test_calls::lines::lay_nest;
+use test_calls::lines::lay_row;
+use test_calls::lines::swap_joins;
+use test_calls::make_reply;
+use test_calls::same_reply;
+use test_cells::less;
+use test_cells::plus;
+use test_compare::compare;
+
+fn answers(events: &[u16], call: Call, want: Reply, memory: &mut [usize]) -> bool {
+    same_reply(compare(events, call, memory), want)
+}
+
+// Whether the judges answer so.
+fn judges(events: &[u16], n: usize, want: Reply, memory: &mut [usize]) -> bool {
+    answers(events, judging(roomy(n), 3), want, memory)
+}
+
+// Whether the ordering calls, asked if p reaches the last position, answer so.
+fn orders(events: &[u16], n: usize, p: usize, want: Reply, memory: &mut [usize]) -> bool {
+    answers(events, asking(roomy(n), p, less(n), 7), want, memory)
+}
+
+// 1,024 tasks nest: the write of the innermost races with the last read of task 0, which the first fork reaches.
+fn nest(events: &mut [u16], memory: &mut [usize]) -> bool {
+    lay_nest(events);
+    let race = judges(events, 2048, make_reply(RACE, 1023, 2047), memory);
+    let fork = orders(events, 2048, 0, make_reply(YES, 0, 0), memory);
+    let write = orders(events, 2048, 1023, make_reply(NO, 0, 0), memory);
+    race & fork & write
+}
+
+// 1,023 halted tasks stand in the line: joined in the right order, they race with nobody, and the first one's read reaches the write of task 0.
+fn row(events: &mut [u16], memory: &mut [usize]) -> bool {
+    lay_row(events);
+    let clean = judges(events, 4093, make_reply(CLEAN, 0, 0), memory);
+    let read = orders(events, 4093, 1, make_reply(YES, 0, 0), memory);
+    clean & read
+}
+
+// The same, but the last two joins are in the wrong order.
+fn wrong_row(events: &mut [u16], memory: &mut [usize]) -> bool {
+    swap_joins(events);
+    let want = make_reply(plus(REFUSED, 11), 4090, 0);
+    let judged = judges(events, 4093, want, memory);
+    let ordered = orders(events, 4093, 1, want, memory);
+    judged & ordered
+}
+
+// Each trace is laid over the one before it.
+fn agreed_in(events: &mut [u16; 12288], memory: &mut [usize]) -> usize {
+    let nested = nest(events, memory);
+    let joined = row(events, memory);
+    let refused = wrong_row(events, memory);
+    held(nested, joined, refused)
+}
+
+pub const COUNT: usize = 3;
+
+// How many of these came out as written here, one after the other.
+pub fn agreed(memory: &mut [usize]) -> usize {
+    let mut events = [0u16; 12288];
+    agreed_in(&mut events, memory)
+}

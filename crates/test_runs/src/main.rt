@@ -1,0 +1,152 @@
+// The evidence: the judge against a slow one that stores all ancestors of all events. What it prints is held to the file `stdout`.
+mod known;
+mod large;
+mod lines;
+mod outcome;
+mod plants;
+mod random;
+mod sizes;
+mod tables;
+
+use libc::STDOUT_FILENO;
+use outcome::Outcome;
+use outcome::make_outcome;
+use random::count_at;
+use test_cells::plus;
+
+fn print(text: &[u8], n: usize) {
+    io::write_all(STDOUT_FILENO, text);
+    io::print_decimal(STDOUT_FILENO, n as u64);
+    io::write_all(STDOUT_FILENO, b"\n");
+}
+
+// Whether all came out well; else the first that did not is told by its number.
+fn told(text: &[u8], fault: &[u8], outcome: Outcome) -> bool {
+    print(text, outcome.agreed);
+    if !outcome.all {
+        print(fault, outcome.agreed);
+    }
+    outcome.all
+}
+
+fn all_agree(text: &[u8], outcome: Outcome) -> bool {
+    told(text, b"MISMATCH at number ", outcome)
+}
+
+fn all_noticed(text: &[u8], outcome: Outcome) -> bool {
+    told(text, b"NOT NOTICED: number ", outcome)
+}
+
+fn print_refusal(counts: [usize; 65], from: usize, number: usize) {
+    io::write_all(STDOUT_FILENO, b"  refused ");
+    io::print_decimal(STDOUT_FILENO, number as u64);
+    print(
+        b": ",
+        count_at(counts, plus(from, plus(test_calls::REFUSED, number))),
+    );
+}
+
+fn print_refusals(counts: [usize; 65], from: usize) {
+    let mut number = 1;
+    while number < 14 {
+        print_refusal(counts, from, number);
+        number += 1;
+    }
+}
+
+fn print_judge(counts: [usize; 65]) {
+    print(b"  events of a trace, at most: ", test_slow::EVENTS);
+    print(b"  events in all: ", count_at(counts, random::EVENTS));
+    print(b"  clean: ", count_at(counts, test_calls::CLEAN));
+    print(b"  race: ", count_at(counts, test_calls::RACE));
+    print_refusals(counts, 0);
+}
+
+fn print_ordering(counts: [usize; 65]) {
+    print(b"pairs of each trace: ", random::PAIRS);
+    print(
+        b"  yes: ",
+        count_at(counts, plus(random::ORDERING, test_calls::YES)),
+    );
+    print(
+        b"  no: ",
+        count_at(counts, plus(random::ORDERING, test_calls::NO)),
+    );
+    print_refusals(counts, random::ORDERING);
+}
+
+fn try_random(memory: &mut [usize]) {
+    let trials = random::try_all(memory);
+    let counts = trials.counts;
+    let all = trials.agreed == random::TRACES;
+    if all_agree(b"traces at random: ", make_outcome(trials.agreed, all)) {
+        print_judge(counts);
+        print_ordering(counts);
+        io::write_all(STDOUT_FILENO, b"all answers and all cells agree\n");
+    }
+}
+
+fn try_known(memory: &mut [usize]) -> bool {
+    all_agree(b"runs that document 01 tells: ", known::try_all(memory))
+}
+
+fn try_wrong(memory: &mut [usize]) -> bool {
+    all_noticed(
+        b"runs told wrong that were noticed: ",
+        known::try_wrong(memory),
+    )
+}
+
+fn try_plants(memory: &mut [usize]) -> bool {
+    all_noticed(
+        b"wrong expectations that were noticed: ",
+        plants::try_all(memory),
+    )
+}
+
+fn try_sizes(memory: &mut [usize]) -> bool {
+    all_agree(b"lengths of slices: ", sizes::try_all(memory))
+}
+
+fn try_large(memory: &mut [usize]) -> bool {
+    let agreed = large::agreed(memory);
+    all_agree(
+        b"calls on 32768 events: ",
+        make_outcome(agreed, agreed == large::COUNT),
+    )
+}
+
+fn try_lines(memory: &mut [usize]) -> bool {
+    let agreed = lines::agreed(memory);
+    all_agree(
+        b"lines of 1024 tasks: ",
+        make_outcome(agreed, agreed == lines::COUNT),
+    )
+}
+
+fn run(memory: &mut [usize; test_slow::MEMORY]) {
+    if !try_known(memory) {
+        return;
+    }
+    if !try_wrong(memory) {
+        return;
+    }
+    if !try_plants(memory) {
+        return;
+    }
+    if !try_sizes(memory) {
+        return;
+    }
+    if !try_large(memory) {
+        return;
+    }
+    if !try_lines(memory) {
+        return;
+    }
+    try_random(memory);
+}
+
+fn main() {
+    let mut memory = [0usize; test_slow::MEMORY];
+    run(&mut memory);
+}

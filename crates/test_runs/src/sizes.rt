@@ -1,0 +1,44 @@
+// Rows 1 to 4 of document 01's table, and the largest traces: reads by task 0 in slices of many lengths.
+use crate::outcome::Outcome;
+use crate::tables::go_through;
+use test_calls::CLEAN;
+use test_calls::MISMATCH;
+use test_calls::REFUSED;
+use test_calls::asking;
+use test_calls::judging;
+use test_calls::lengths::lengths;
+use test_calls::lengths::read_runs;
+use test_calls::lengths::told;
+use test_calls::make_reply;
+use test_calls::same_reply;
+use test_cells::plus;
+use test_compare::compare;
+use test_slow::Sizes;
+
+// "It has no order buffers, so refusal 4 is absent"; rows 1 to 3 are as for the judge. The read at position 0 reaches itself, if it is there.
+fn asked(sizes: Sizes, case: usize, events: &[u16], run: usize, memory: &mut [usize]) -> bool {
+    if plus(REFUSED, 3) < case {
+        return true;
+    }
+    let answer = compare(events, asking(sizes, 0, 0, run), memory);
+    if case == CLEAN {
+        return answer.case != MISMATCH;
+    }
+    same_reply(answer, make_reply(case, 0, 0))
+}
+
+pub fn run_agrees(cells: &[u16], run: usize, events: &[u16], memory: &mut [usize]) -> bool {
+    let sizes = lengths(cells, run);
+    let case = told(cells, run);
+    let answer = compare(events, judging(sizes, run), memory);
+    let also = asked(sizes, case, events, run, memory);
+    same_reply(answer, make_reply(case, 0, 0)) & also
+}
+
+// Every event is a read of location 0 by task 0.
+pub fn try_all(memory: &mut [usize]) -> Outcome {
+    let mut cells = [0u16; 170];
+    let count = read_runs(&mut cells);
+    let reads = [0u16; 3];
+    go_through(&cells, count, false, &reads, memory)
+}

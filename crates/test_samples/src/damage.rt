@@ -1,0 +1,90 @@
+// Damage to one event of a trace, so that it meets a row of document 01's table.
+use crate::draws::below;
+use crate::draws::next;
+use crate::events::Event;
+use crate::events::FORK;
+use crate::events::HALT;
+use crate::events::JOIN;
+use crate::events::event_at;
+use crate::events::put_event;
+use crate::growth::kind_of;
+use test_cells::least;
+use test_cells::minus;
+use test_cells::more;
+use test_cells::plus;
+
+// The first event of task 0 from p on, or n.
+fn of_task_0(events: &[u16], p: usize, n: usize) -> usize {
+    let mut i = p;
+    while i < n {
+        if event_at(events, i).task == 0 {
+            return i;
+        }
+        i += 1;
+    }
+    i
+}
+
+// The least number that is too large, or another up to the largest.
+fn too_large(least: usize, largest: usize, seed: usize) -> usize {
+    if below(seed, 3) == 0 {
+        return least;
+    }
+    plus(least, below(next(seed), more(minus(largest, least))))
+}
+
+// The event with another kind and operand.
+fn with(event: Event, kind: usize, operand: usize) -> Event {
+    Event {
+        task: event.task,
+        kind,
+        operand,
+    }
+}
+
+// The event as it meets the row of this number. `used` is the number of a task that has acted.
+fn damaged(event: Event, number: usize, used: usize, seed: usize) -> Event {
+    match number {
+        5 => with(event, too_large(5, 255, seed), event.operand),
+        6 => Event {
+            task: 0,
+            kind: HALT,
+            operand: 0,
+        },
+        7 => Event {
+            task: below(seed, 1100),
+            kind: event.kind,
+            operand: event.operand,
+        },
+        8 => with(event, kind_of(8, seed), too_large(1024, 65535, next(seed))),
+        9 => with(event, FORK, too_large(1024, 65535, seed)),
+        10 => with(event, FORK, used),
+        11 => with(event, JOIN, below(seed, 1100)),
+        _ => with(event, HALT, too_large(1, 65535, seed)),
+    }
+}
+
+// Where the damage is done: at p, but for row 6 at the first event of task 0 from p on, which becomes its halt. Where there is none, that is behind the
+// trace.
+fn place(events: &[u16], n: usize, p: usize, number: usize) -> usize {
+    if number == 6 {
+        return of_task_0(events, p, n);
+    }
+    p
+}
+
+// Makes event p meet the row of this number, if the events before it fail in nothing.
+fn spoil_at(events: &mut [u16], n: usize, p: usize, number: usize, seed: usize) {
+    let at = place(events, n, p, number);
+    let used = event_at(events, below(seed, more(p))).task;
+    let event = event_at(events, at);
+    put_event(events, at, damaged(event, number, used, seed));
+}
+
+// Damages one of n events, in half of the cases one of the first 20.
+pub fn spoil(events: &mut [u16], n: usize, seed: usize) {
+    let b = next(seed);
+    let c = next(b);
+    let most = if below(seed, 2) == 0 { n } else { least(n, 20) };
+    spoil_at(events, n, below(b, most), plus(5, below(c, 8)), next(c));
+}

@@ -1,0 +1,208 @@
+// The slow judge and the slow ordering call: document 01 taken at its word, with no part of the fast ones. Of `trace` it uses the answer types alone.
+mod events;
+mod memory;
+mod paths;
+mod races;
+mod rules;
+
+use events::Event;
+use events::event_at;
+use trace::Answer;
+use trace::Ordering;
+use trace::Refusal;
+
+pub const EVENTS: usize = memory::EVENTS;
+
+pub const ORDERS: usize = memory::ORDERS;
+
+pub const MEMORY: usize = memory::MEMORY;
+
+fn refused(number: usize, position: usize) -> Answer {
+    Answer::Refused(Refusal { number, position })
+}
+
+// What an event comes to: the task that runs after it, or the answer that it decides.
+enum Outcome {
+    Passed(usize),
+    Failed(Answer),
+}
+
+// The arcs into event q, then the race test, if races are asked for: the position that q races with, or q.
+fn race_test(
+    kinds: &[u8],
+    tasks: &[u16],
+    operands: &[u16],
+    memory: &mut [usize],
+    racing: bool,
+    event: Event,
+    q: usize,
+) -> usize {
+    let one = paths::of_task(kinds, tasks, operands, event, q);
+    let other = paths::of_join(kinds, tasks, event, q);
+    paths::fill_row(memory, one, other, q);
+    if racing {
+        return races::partner(kinds, tasks, operands, memory, event, q);
+    }
+    q
+}
+
+// "Each is first held to the line rules, .. then to the race test."
+fn take(
+    kinds: &[u8],
+    tasks: &[u16],
+    operands: &[u16],
+    memory: &mut [usize],
+    racing: bool,
+    running: usize,
+    q: usize,
+) -> Outcome {
+    let event = event_at(kinds, tasks, operands, q);
+    let number = rules::row(kinds, operands, memory, running, event, q);
+    if number != 0 {
+        return Outcome::Failed(refused(number, q));
+    }
+    let s = race_test(kinds, tasks, operands, memory, racing, event, q);
+    if s < q {
+        return Outcome::Failed(Answer::Race(s, q));
+    }
+    Outcome::Passed(rules::after(memory, event))
+}
+
+// "Events are taken in position order. .. The first failure decides". Where races are not asked for, only the line rules can fail.
+fn take_all(
+    kinds: &[u8],
+    tasks: &[u16],
+    operands: &[u16],
+    memory: &mut [usize],
+    racing: bool,
+) -> Answer {
+    rules::start(memory);
+    let mut running = 0;
+    let mut q = 0;
+    while q < kinds.len() {
+        let outcome = take(kinds, tasks, operands, memory, racing, running, q);
+        match outcome {
+            Outcome::Passed(next) => {
+                running = next;
+            }
+            Outcome::Failed(answer) => {
+                return answer;
+            }
+        }
+        q += 1;
+    }
+    Answer::Clean
+}
+
+// How many cells of each slice are lent.
+pub struct Sizes {
+    pub kinds: usize,
+    pub tasks: usize,
+    pub operands: usize,
+    pub ws: usize,
+    pub first: usize,
+    pub second: usize,
+}
+
+// Rows 1 to 3, or 0.
+fn size_row(sizes: Sizes) -> usize {
+    let n = sizes.kinds;
+    if sizes.tasks != n {
+        return 1;
+    }
+    if sizes.operands != n {
+        return 1;
+    }
+    if 32768 < n {
+        return 2;
+    }
+    if sizes.ws < 12288 + n {
+        return 3;
+    }
+    0
+}
+
+// Rows 1 to 4, or 0.
+fn judge_row(sizes: Sizes) -> usize {
+    let number = size_row(sizes);
+    if number != 0 {
+        return number;
+    }
+    if sizes.first < sizes.kinds {
+        return 4;
+    }
+    if sizes.second < sizes.kinds {
+        return 4;
+    }
+    0
+}
+
+// What the judge must answer to slices of these sizes; kinds, tasks and operands are of theirs. After a race the two orders stand at ORDERS.
+pub fn judge(
+    kinds: &[u8],
+    tasks: &[u16],
+    operands: &[u16],
+    sizes: Sizes,
+    memory: &mut [usize],
+) -> Answer {
+    let number = judge_row(sizes);
+    if number != 0 {
+        return refused(number, 0);
+    }
+    let answer = take_all(kinds, tasks, operands, memory, true);
+    if let Answer::Race(s, t) = answer {
+        races::orders(memory, s, t);
+    }
+    answer
+}
+
+// How many cells of the workspace a call on n events must leave 0, by the number of its refusal, if it is one: "After refusals 1 to 4 .. the workspace is
+// unchanged. After every other answer the first 12,288 cells plus one per event are 0, and the rest is unchanged."
+pub fn cleared(refusal: usize, n: usize) -> usize {
+    match refusal {
+        1 | 2 | 3 | 4 => 0,
+        _ => test_cells::plus(12288, n),
+    }
+}
+
+fn not_ordered(number: usize) -> Ordering {
+    Ordering::Refused(Refusal {
+        number,
+        position: 0,
+    })
+}
+
+// Whether p reaches q, of a trace that keeps the line rules.
+fn ordered(n: usize, memory: &[usize], p: usize, q: usize) -> Ordering {
+    if n <= p {
+        return not_ordered(13);
+    }
+    if n <= q {
+        return not_ordered(13);
+    }
+    if paths::reaches(memory, p, q) {
+        return Ordering::Yes;
+    }
+    Ordering::No
+}
+
+// What the ordering call must answer; it has no order buffers.
+pub fn ordering(
+    kinds: &[u8],
+    tasks: &[u16],
+    operands: &[u16],
+    sizes: Sizes,
+    p: usize,
+    q: usize,
+    memory: &mut [usize],
+) -> Ordering {
+    let number = size_row(sizes);
+    if number != 0 {
+        return not_ordered(number);
+    }
+    let answer = take_all(kinds, tasks, operands, memory, false);
+    let Answer::Refused(refusal) = answer else {
+        return ordered(sizes.kinds, memory, p, q);
+    };
+    Ordering::Refused(refusal)
+}
