@@ -51,13 +51,13 @@ abbrev pub printAll : List Line → List ℕ
 printAll [] = []
 printAll (l ∷ lines) = print l ++ printAll lines
 
--- Lines of the form that a text begins with, and the bytes after them.
+-- A text is the print of some lines, and then these bytes.
 pub record LinesBefore (text rest : List ℕ) : Type 0 where
   pub lines : List Line
   pub in-range : AllInRange lines
   pub printed : text ≡ printAll lines ++ rest
 
--- A text is of the form: no byte comes after its lines.
+-- A text is of the form: it is the print of some lines, and then nothing.
 abbrev pub OfForm : List ℕ → Type 0
 OfForm text = LinesBefore text []
 

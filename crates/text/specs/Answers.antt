@@ -36,7 +36,7 @@ use Rattle.text.specs.declared.Translation.the-variants.{Events, Refused
 -- The number of events, or refused number position.
 unfoldable pub translationReply : Translation → Reply ℕ
 translationReply (Events count) = says count
-translationReply (Refused r) = refusal r
+translationReply (Refused r) = refused (r .number) (r .position)
 
 -- An answer with the slices that it leaves.
 abbrev pub translatedOf : Translation → Slices → Translated

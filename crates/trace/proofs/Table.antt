@@ -7,19 +7,25 @@ use mathlib.Core.List.{[], _∷_, _++_, map}
 use lib.ListN.{length, replicate, length-replicate}
 use Rattle.trace.specs.Trace.{traceOf, isKind, isAccess, WORKSPACE-CELLS}
 use Rattle.trace.specs.Race.{conflicting}
-use Rattle.trace.specs.Line.{row, start, isEmpty, isHead, isMember, isLeftOf, putLeftOf, remove, forked, joined, halted, haltOperand, stepByKind, step, stepAfter, lineAfter}
+use Rattle.trace.specs.Line.{row, start, isEmpty, isHead, isMember, isLeftOf, putLeftOf, remove, forked, joined, halted, haltOperand}
+use Rattle.trace.specs.Line.{stepByKind, step, stepAfter, lineAfter}
 use Rattle.trace.specs.Graph.{isPassed, graphEvents}
 use Rattle.trace.specs.Search.{someBelow, leastBelow, next?, child?, join?, arc?, chain?, reach?, conflict?, race?}
 use Rattle.trace.specs.declared.Answer.the-variants.{Clean, Race, Refused}
 use Rattle.trace.specs.declared.Ordering.{Ordering}
-use Rattle.trace.specs.Outcome.{says, refused, clean, race, Outcome, orElse, raceWith, partner, failureAt, firstFailure, atEnd, orAtEnd, judgement, inD?, sizes, orderRoom, cleared, firstOrder, secondOrder, judgeChecked, judgeOutcome, orderingSaid, ordering, orderingChecked, orderingOutcome}
+use Rattle.trace.specs.Outcome.{says, refused, clean, race, Outcome, orElse, raceWith, partner, failureAt, firstFailure, atEnd, orAtEnd, judgement}
+use Rattle.trace.specs.Outcome.{inD?, sizes, orderRoom, cleared, firstOrder, secondOrder, judgeChecked, judgeOutcome}
+use Rattle.trace.specs.Outcome.{orderingSaid, ordering, orderingChecked, orderingOutcome}
 use Rattle.trace.specs.Answers.{judgeReply, orderingReply}
 use Rattle.trace.specs.Runs.{Example, runs, deceivers, lentFor, judged, expected}
 use Rattle.trace.specs.Refusals.{cells, sizeExamples, examples}
 
 -- Every definition that `judged` computes by: to unfold this one is to unfold them all.
 unfoldable pub computed : Example → Outcome
-unfolding traceOf isKind isAccess conflicting row start isEmpty isHead isMember isLeftOf putLeftOf remove forked joined halted haltOperand stepByKind step stepAfter lineAfter isPassed graphEvents someBelow leastBelow next? child? join? arc? chain? reach? conflict? race? orElse raceWith partner failureAt firstFailure atEnd orAtEnd judgement inD? sizes orderRoom cleared firstOrder secondOrder judgeChecked judgeOutcome lentFor judged
+unfolding traceOf isKind isAccess conflicting row start isEmpty isHead isMember isLeftOf putLeftOf remove forked joined halted haltOperand
+    stepByKind step stepAfter lineAfter isPassed graphEvents someBelow leastBelow next? child? join? arc? chain? reach? conflict? race? orElse
+    raceWith partner failureAt firstFailure atEnd orAtEnd judgement inD? sizes orderRoom cleared firstOrder secondOrder judgeChecked judgeOutcome
+    lentFor judged
 computed = judged
 
 -- The † runs.
