@@ -16,10 +16,10 @@ use mir.Val.{SFits}
 use mir.Facts.{toZ-ofZ}
 use Rattle.libc.specs.Io.{Moved}
 use Rattle.input.specs.declared.Input.{Input}
-use Rattle.input.specs.declared.Input.the-variants.{Bytes}
+use Rattle.input.specs.declared.Input.the-variants.{Bytes, Failed, Arguments}
 use Rattle.input.specs.declared.Step.{Step}
 use Rattle.input.specs.declared.Step.the-variants.{Again, Ended}
-use Rattle.input.specs.Reading.{OneRead, decided, ReadOnce, Reads, none, more, Whole, full, ended, AsRead, ReadFailed, TextRead}
+use Rattle.input.specs.Reading.{OneRead, decided, ReadOnce, Reads, none, more, Whole, full, ended, AsRead, ReadFailed, TextRead, Received}
 use Rattle.input.proofs.Deciding.{back}
 
 -- ---- one read
@@ -134,3 +134,10 @@ module _ (start before after : List ℕ) (filled : ℕ) (begun : Begun start bef
 
   pub turned : (step step′ : Step) → ReadOnce filled before after step → step ≡ step′ → Turned start after filled step′
   turned step step′ once e = rw (sym e ∙ once .decides) (turned-by (once .got) (once .read))
+
+-- ---- the row of `receive` with no arguments
+
+pub received-alone : (words : ℕ) (start after : List ℕ) (input : Input) → words ≤ 1 → TextRead start after input → Received words start after input
+received-alone words start after (Bytes count) h read = (h, read)
+received-alone words start after Failed h read = (h, read)
+received-alone words start after Arguments h read = absurd read

@@ -73,6 +73,7 @@ TextRead start after Failed = ReadFailed start after
 TextRead start after Arguments = ⊥
 
 -- WHAT A PROGRAM TAKES IN that was started with `words` words, its own name among them. It takes no arguments: with any, nothing is read.
-pub record Received (words : ℕ) (start after : List ℕ) (input : Input) : Type 0 where
-  pub alone : words ≤ 1 → TextRead start after input
-  pub arguments : 1 < words → (input ≡ Arguments) × (after ≡ start)
+abbrev pub Received : ℕ → List ℕ → List ℕ → Input → Type 0
+Received words start after (Bytes count) = (words ≤ 1) × AsRead start after count
+Received words start after Failed = (words ≤ 1) × ReadFailed start after
+Received words start after Arguments = (1 < words) × (after ≡ start)
