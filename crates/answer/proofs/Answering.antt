@@ -8,7 +8,7 @@ use mathlib.Core.List.{List, [], _++_, map}
 use lib.ListN.{length, take, drop, replicate, length-append, length-map, length-replicate}
 use lib.Dec.{leb}
 use lib.Seq.{take-at, length-take-le}
-use borrow.Author.Tests.{lt-ltb}
+use borrow.Author.Tests.{lt-ltb, le-leb}
 use Rattle.trace.specs.Trace.{Event, WORKSPACE-CELLS}
 use Rattle.trace.specs.Outcome.{Reply, says, refused, Verdict, clean, race, judgeOutcome}
 use Rattle.trace.specs.Answers.{judgeReply}
@@ -188,3 +188,12 @@ unfolding answered
 answered-within text out after used e =
     let h : used ≤ length after = subst (λ (b : Buffer). b .used ≤ length (b .bytes)) (sym e) (holding-fits (textAnswer text) out (length-answer text)) in
     (h, sym (length-take-le used after h))
+
+-- In a buffer with room, the first bytes are the answer.
+pub answered-output : (text out after : List ℕ) (used : ℕ) → length out ≡ OUTPUT-BYTES → buffer after used ≡ answered text out
+    → take used after ≡ textAnswer text
+unfolding answered holding
+answered-output text out after used room e =
+    let test : leb OUTPUT-BYTES (length out) ≡ true = le-leb OUTPUT-BYTES (length out) (omega arith) in
+    let held : buffer after used ≡ buffer (textAnswer text ++ drop (length (textAnswer text)) out) (length (textAnswer text)) = rw test at e in
+    subst (λ (b : Buffer). take (b .used) (b .bytes) ≡ textAnswer text) (sym held) (take-at (textAnswer text) _ _ refl)

@@ -44,6 +44,12 @@ holding bytes out = cond (leb OUTPUT-BYTES (length out)) (buffer (bytes ++ drop 
 unfoldable pub answered : List ℕ → List ℕ → Buffer
 answered text out = holding (textAnswer text) out
 
+-- THE BUFFER AFTER THE ANSWER TO WHAT WAS READ, the first `count` bytes of `read`: it is that of the text that ends with them; and where they fill `read`, it
+-- is that of every text that begins with them, whatever follows.
+pub record AnswersRead (read : List ℕ) (count : ℕ) (out after : List ℕ) (used : ℕ) : Type 0 where
+  pub ends : buffer after used ≡ answered (take count read) out
+  pub full : length read ≤ count → (rest : List ℕ) → buffer after used ≡ answered (take count read ++ rest) out
+
 -- The buffer that the judge's outcome is rendered to.
 unfoldable pub eventsRendered : List ℕ → List ℕ → List ℕ → List ℕ → Buffer
 eventsRendered kinds tasks operands out =

@@ -10,7 +10,7 @@ ghost use mathlib.Core.Path.{_≡_};
 ghost use mathlib.Core.List.{[]};
 ghost use Rattle.trace.specs.Outcome.{refused};
 ghost use Rattle.output.specs.Output.{buffer, rendered};
-ghost use Rattle.answer.specs.Answer.{eventsRendered, answered, Counts};
+ghost use Rattle.answer.specs.Answer.{eventsRendered, answered, AnswersRead, Counts};
 
 // Room for the judge of 2,048 events.
 const CELLS: usize = WORKSPACE_CELLS + MAX_TEXT_EVENTS;
@@ -50,4 +50,17 @@ pub fn answer(text: &[u8], out: &mut [u8]) -> usize
         }
         Translation::Refused(refusal) => answer_refusal(refusal, out),
     }
+}
+
+// THE ANSWER to what was read of a text, the first `count` bytes of an array of TEXT_BYTES. An array that is full decides, whatever follows in the text: a
+// program need not read on. A larger count is that of a full array.
+pub fn answer_read(text: &[u8; TEXT_BYTES], count: usize, out: &mut [u8]) -> usize
+    ensures answer { λ r. ⌜ AnswersRead (now (text .entry)) count (now (out .entry)) (now (out .exit)) r ⌝ }
+    ensures within { λ r. ⌜ Counts r (now (out .exit)) ⌝ }
+{
+    let bytes: &[u8] = text;
+    if count < TEXT_BYTES {
+        return answer(&bytes[..count], out);
+    }
+    answer(bytes, out)
 }

@@ -1,2 +1,2 @@
--- The law behind the reading of standard input.
-pub mod Reading
+-- The law behind a run: `Running`.
+pub mod Running

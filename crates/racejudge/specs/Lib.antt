@@ -1,2 +1,2 @@
--- What the reading of standard input promises.
-pub mod Reading
+-- What a reader must believe of the program, in the order in which to read it.
+pub mod Program

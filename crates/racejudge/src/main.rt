@@ -1,61 +1,92 @@
-// The text program: a trace text on standard input, its answer on standard output. The work is crate `answer`'s; here it is read and written.
+// The text program: a trace text on standard input, its answer on standard output. What it takes in is crate `input`'s matter, and the answer crate `answer`'s;
+// `main` reads, calls and writes.
 use answer::OUTPUT_BYTES;
 use answer::TEXT_BYTES;
+use input::Input;
 use libc::STDERR_FILENO;
-use libc::STDIN_FILENO;
 use libc::STDOUT_FILENO;
 ghost use mathlib.Core.Path.{_≡_};
-ghost use Prim.Native.Nat.{_≤_};
-ghost use lib.ListN.{length};
-ghost use Rattle.racejudge.specs.Reading.{FitsAfter};
+ghost use lib.ListN.{take};
+ghost use Rattle.answer.specs.Answer.{Counts};
+ghost use Rattle.racejudge.specs.Program.{Responds, Runs, troubleOf};
 
-// How many bytes were read, or that a read failed.
-enum Input {
-    Bytes(usize),
-    Failed,
+// What was taken in, and how many bytes of output there are.
+struct Ran {
+    taken: Input,
+    used: usize,
 }
 
-// One read, into the bytes of the buffer behind the first `filled`. At the end of the input it is 0 bytes.
-fn read_more(text: &mut [u8], filled: usize) -> Input
-    requires { ⌜ filled ≤ length (now text) ⌝ }
-    ensures fits { λ r. ⌜ FitsAfter filled (now (text .exit)) r ⌝ }
-    ensures long { λ r. ⌜ length (now (text .exit)) ≡ length (now (text .entry)) ⌝ }
+// What is told on standard error: that arguments were given, that a read failed, or that a write did.
+enum Trouble {
+    Nothing,
+    Given,
+    Unread,
+    Unwritten,
+}
+
+// The output for what was taken in: the answer to a text, and nothing after a failed read or with arguments.
+fn respond(taken: Input, text: &[u8; TEXT_BYTES], out: &mut [u8]) -> usize
+    ensures responds { λ r. ⌜ Responds taken (now (text .entry)) (now (out .entry)) (now (out .exit)) r ⌝ }
+    ensures within { λ r. ⌜ Counts r (now (out .exit)) ⌝ }
 {
-    let rest = &mut text[filled..];
-    let got = libc::read(STDIN_FILENO, rest);
-    if got < 0 {
-        return Input::Failed;
+    match taken {
+        Input::Bytes(count) => answer::answer_read(text, count, out),
+        Input::Failed => 0,
+        Input::Arguments => 0,
     }
-    Input::Bytes(io::count(got, rest))
 }
 
-// Standard input to its end, or until the buffer is full. A pipe may hand out a few bytes at a time.
-fn read_text(text: &mut [u8]) -> Input
-    ensures { λ r. ⌜ FitsAfter 0 (now (text .exit)) r ⌝ }
+// ONE RUN but for its writes: the output stands at the start of `out`.
+fn run(words: usize, text: &mut [u8; TEXT_BYTES], out: &mut [u8; OUTPUT_BYTES]) -> Ran
+    ensures run { λ r. ⌜ Runs words (now (text .entry)) (now (text .exit)) (r .taken) (take (r .used) (now (out .exit))) ⌝ }
+    ensures within { λ r. ⌜ Counts (r .used) (now (out .exit)) ⌝ }
 {
-    let mut filled: usize = 0;
-    while filled < text.len() {
-        let Input::Bytes(more) = read_more(text, filled) else {
-            return Input::Failed;
-        };
-        if more == 0 {
-            return Input::Bytes(filled);
+    let taken = input::receive(words, text);
+    let used = respond(taken, text, out);
+    Ran { taken, used }
+}
+
+// What is told, where `written` says whether the output was.
+fn trouble_of(taken: Input, written: bool) -> Trouble
+    ensures { λ r. ⌜ r ≡ troubleOf taken written ⌝ }
+{
+    match taken {
+        Input::Arguments => Trouble::Given,
+        Input::Failed => Trouble::Unread,
+        Input::Bytes(_) => {
+            if written {
+                Trouble::Nothing
+            } else {
+                Trouble::Unwritten
+            }
         }
-        filled += more;
     }
-    Input::Bytes(filled)
+}
+
+fn tell(trouble: Trouble) {
+    match trouble {
+        Trouble::Nothing => {}
+        Trouble::Given => {
+            io::write_all(
+                STDERR_FILENO,
+                b"racejudge: takes no arguments; give it the trace text on standard input: racejudge < TEXT\n",
+            );
+        }
+        Trouble::Unread => {
+            io::write_all(STDERR_FILENO, b"racejudge: cannot read standard input\n");
+        }
+        Trouble::Unwritten => {
+            io::write_all(STDERR_FILENO, b"racejudge: cannot write standard output\n");
+        }
+    }
 }
 
 fn main() {
     let mut text = [0u8; TEXT_BYTES];
-    let Input::Bytes(n) = read_text(&mut text) else {
-        io::write_all(STDERR_FILENO, b"racejudge: cannot read standard input\n");
-        return;
-    };
     let mut out = [0u8; OUTPUT_BYTES];
-    let used = answer::answer(&text[..n], &mut out);
+    let ran = run(os::arg_count(), &mut text, &mut out);
+    let used = ran.used;
     let written = io::write_all(STDOUT_FILENO, &out[..used]);
-    if !written {
-        io::write_all(STDERR_FILENO, b"racejudge: cannot write standard output\n");
-    }
+    let taken = ran.taken;
+    tell(trouble_of(taken, written));
 }

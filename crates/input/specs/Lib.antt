@@ -1,0 +1,2 @@
+-- What the reading of standard input promises.
+pub mod Reading

@@ -1,0 +1,17 @@
+-- `racejudge::run` meets its contract (`Running`). Assumes nothing.
+use borrow.Author.Needs.{needs}
+use Rattle.racejudge.proofs.Running.{ran}
+use Rattle.racejudge.proofs.run.Statement.{statement}
+use Rattle.racejudge.proofs.run.Tie as tie
+
+returns : tie.Need-returns
+returns c =
+    let receiving = c .before .before .before in
+    let a = receiving .before .before .args in
+    let received = receiving .receive in (
+      ran (a .words) (a .text .now) (received .last .1 .0) (a .out .now) (c .respond .last .1 .1 .0) (c .respond .result) (received .result) (c .before .respond-arg2 .given .0 .1) (received .ensures) (c .respond .ensures .0),
+      c .respond .ensures .1,
+    )
+
+pub run-spec : {M : Type 1} → statement M
+run-spec = tie.close (tie.spec (λ c κs. search needs) (λ c κs. search needs) returns)
