@@ -24,8 +24,8 @@ pub record OneRead (filled : ℕ) (before after : List ℕ) (got : ℤ) : Type 0
 
 -- ---- reads, one after the other
 
--- Reads that each gave a byte at least, from the buffer at the start: the buffer that they left, and the bytes that they gave, in order. Those of one read stand
--- behind the bytes that were there before it.
+-- Reads that each gave a byte at least, from the buffer at the start: the buffer that they left, and the bytes that they gave, in order. Those of one read
+-- stand behind the bytes that were there before it.
 pub data Reads (start : List ℕ) : List ℕ → List ℕ → Type 0 where
   none : Reads start start []
   more : {before after bytes : List ℕ} (got : ℕ) → Reads start before bytes → 0 < got → OneRead (length bytes) before after (pos got)
@@ -67,8 +67,8 @@ Received words start after Arguments = (1 < words) × (after ≡ start)
 
 -- ---- what the functions beneath promise; a reader need not believe it, since it is proved to come to the above
 
--- What the number of one read decides, where the buffer has `room` bytes. Negative: the read failed. 0: the input has ended. Else so many more bytes are filled,
--- and if these are all, nothing more is read.
+-- What the number of one read decides, where the buffer has `room` bytes. Negative: the read failed. 0: the input has ended. Else so many more bytes are
+-- filled, and if these are all, nothing more is read.
 unfoldable pub decided : ℤ → ℕ → ℕ → Step
 decided (negsuc n) filled room = Ended Failed
 decided (pos zero) filled room = Ended (Bytes filled)
