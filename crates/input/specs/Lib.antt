@@ -1,2 +1,2 @@
--- What the reading of standard input promises.
+-- What a reader must believe of the reading of standard input.
 pub mod Reading

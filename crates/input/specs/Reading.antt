@@ -22,23 +22,10 @@ pub record OneRead (filled : ℕ) (before after : List ℕ) (got : ℤ) : Type 0
   pub long : length after ≡ length before
   pub kept : take filled after ≡ take filled before
 
--- WHAT ITS NUMBER DECIDES, where the buffer has `room` bytes. Negative: the read failed. 0: the input has ended. Else so many more bytes are filled, and if
--- these are all, nothing more is read.
-unfoldable pub decided : ℤ → ℕ → ℕ → Step
-decided (negsuc n) filled room = Ended Failed
-decided (pos zero) filled room = Ended (Bytes filled)
-decided (pos (suc n)) filled room = cond (ltb (filled + suc n) room) (Again (filled + suc n)) (Ended (Bytes (filled + suc n)))
-
--- One read, whatever its number, and what that decides.
-pub record ReadOnce (filled : ℕ) (before after : List ℕ) (step : Step) : Type 0 where
-  pub got : ℤ
-  pub read : OneRead filled before after got
-  pub decides : step ≡ decided got filled (length before)
-
 -- ---- reads, one after the other
 
--- Reads that each gave a byte at least, from the buffer at the start: the buffer that they left, and the bytes that they gave, in order. Those of one read stand
--- behind the bytes that were there before it.
+-- Reads that each gave a byte at least, from the buffer at the start: the buffer that they left, and the bytes that they gave, in order. Those of one read
+-- stand behind the bytes that were there before it.
 pub data Reads (start : List ℕ) : List ℕ → List ℕ → Type 0 where
   none : Reads start start []
   more : {before after bytes : List ℕ} (got : ℕ) → Reads start before bytes → 0 < got → OneRead (length bytes) before after (pos got)
@@ -77,3 +64,18 @@ abbrev pub Received : ℕ → List ℕ → List ℕ → Input → Type 0
 Received words start after (Bytes count) = (words ≤ 1) × AsRead start after count
 Received words start after Failed = (words ≤ 1) × ReadFailed start after
 Received words start after Arguments = (1 < words) × (after ≡ start)
+
+-- ---- what the functions beneath promise; a reader need not believe it, since it is proved to come to the above
+
+-- What the number of one read decides, where the buffer has `room` bytes. Negative: the read failed. 0: the input has ended. Else so many more bytes are
+-- filled, and if these are all, nothing more is read.
+unfoldable pub decided : ℤ → ℕ → ℕ → Step
+decided (negsuc n) filled room = Ended Failed
+decided (pos zero) filled room = Ended (Bytes filled)
+decided (pos (suc n)) filled room = cond (ltb (filled + suc n) room) (Again (filled + suc n)) (Ended (Bytes (filled + suc n)))
+
+-- One read, whatever its number, and what that decides.
+pub record ReadOnce (filled : ℕ) (before after : List ℕ) (step : Step) : Type 0 where
+  pub got : ℤ
+  pub read : OneRead filled before after got
+  pub decides : step ≡ decided got filled (length before)

@@ -39,8 +39,9 @@ fn decide(got: isize, filled: usize, room: usize) -> Step
     Step::Ended(Input::Bytes(total))
 }
 
-// One read, into the bytes of the buffer behind the first `filled`. Trusted, since no contract can say it: that the number comes from the C library's `read`
-// of standard input, and that the bytes which it put there are the next bytes of the input.
+// One read, into the bytes of the buffer behind the first `filled`. The contract says that there is a number which decides. That it is the number which the C
+// library's `read` gave, and that the bytes which `read` put there are the next of the input, no contract can say: the two lines that lend it the rest of the
+// buffer and take its number are trusted.
 fn read_more(text: &mut [u8], filled: usize) -> Step
     requires { ⌜ filled ≤ length (now text) ⌝ }
     ensures { λ r. ⌜ ReadOnce filled (now (text .entry)) (now (text .exit)) r ⌝ }

@@ -1,4 +1,5 @@
--- A run's output is the answer to all of standard input (`ran`): what was read decides, and in a buffer with room the first bytes are the answer. Assumes nothing.
+-- A run's output is the answer to all of standard input (`ran`): what was read decides, and in a buffer with room the first bytes are the answer. Assumes
+-- nothing.
 use Prim.Native.Nat.{ℕ, _≤_}
 use native.Mathlib.Omega.{arith}
 use mathlib.Core.Path.{_≡_, _∙_}

@@ -3,13 +3,12 @@ use Prim.Native.Nat.{ℕ}
 use mathlib.Core.Path.{_≡_}
 use mathlib.Core.Bool.{Bool, true, false}
 use mathlib.Core.List.{List, [], _++_}
-use lib.ListN.{take}
 use Rattle.input.specs.declared.Input.{Input}
 use Rattle.input.specs.declared.Input.the-variants.{Bytes, Failed, Arguments}
 use Rattle.input.specs.Reading.{Whole, full, ended, AsRead, Received}
 use Rattle.answer.specs.Answer.{textAnswer, AnswersRead}
 use Rattle.racejudge.specs.declared.Trouble.{Trouble}
-use Rattle.racejudge.specs.declared.Trouble.the-variants.{Nothing, Given, Unread, Unwritten}
+use Rattle.racejudge.specs.declared.Trouble.the-variants.{Nothing, HasArguments, CannotRead, CannotWrite}
 
 -- What may follow in the input behind the bytes that were read: where one more read gave 0, nothing; where the buffer is full, anything.
 abbrev pub MayFollow : {before bytes after : List ℕ} → Whole before bytes after → List ℕ → Type 0
@@ -32,15 +31,16 @@ pub record Runs (words : ℕ) (start text : List ℕ) (taken : Input) (output : 
   pub received : Received words start text taken
   pub answers : Answers start text taken output
 
--- The same of the buffer that the output is put in, which stays as it was where there is none.
+-- What is told on standard error, where `written` says whether the output was.
+unfoldable pub troubleOf : Input → Bool → Trouble
+troubleOf Arguments written = HasArguments
+troubleOf Failed written = CannotRead
+troubleOf (Bytes count) true = Nothing
+troubleOf (Bytes count) false = CannotWrite
+
+-- ---- what `respond` promises of the buffer that the output is put in; proved to come to the above
+
 abbrev pub Responds : Input → List ℕ → List ℕ → List ℕ → ℕ → Type 0
 Responds (Bytes count) text out after used = AnswersRead text count out after used
 Responds Failed text out after used = (after ≡ out) × (used ≡ 0)
 Responds Arguments text out after used = (after ≡ out) × (used ≡ 0)
-
--- What is told on standard error, where `written` says whether the output was.
-unfoldable pub troubleOf : Input → Bool → Trouble
-troubleOf Arguments written = Given
-troubleOf Failed written = Unread
-troubleOf (Bytes count) true = Nothing
-troubleOf (Bytes count) false = Unwritten

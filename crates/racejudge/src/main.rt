@@ -19,9 +19,9 @@ struct Ran {
 // What is told on standard error: that arguments were given, that a read failed, or that a write did.
 enum Trouble {
     Nothing,
-    Given,
-    Unread,
-    Unwritten,
+    HasArguments,
+    CannotRead,
+    CannotWrite,
 }
 
 // The output for what was taken in: the answer to a text, and nothing after a failed read or with arguments.
@@ -51,13 +51,13 @@ fn trouble_of(taken: Input, written: bool) -> Trouble
     ensures { λ r. ⌜ r ≡ troubleOf taken written ⌝ }
 {
     match taken {
-        Input::Arguments => Trouble::Given,
-        Input::Failed => Trouble::Unread,
+        Input::Arguments => Trouble::HasArguments,
+        Input::Failed => Trouble::CannotRead,
         Input::Bytes(_) => {
             if written {
                 Trouble::Nothing
             } else {
-                Trouble::Unwritten
+                Trouble::CannotWrite
             }
         }
     }
@@ -66,16 +66,16 @@ fn trouble_of(taken: Input, written: bool) -> Trouble
 fn tell(trouble: Trouble) {
     match trouble {
         Trouble::Nothing => {}
-        Trouble::Given => {
+        Trouble::HasArguments => {
             io::write_all(
                 STDERR_FILENO,
                 b"racejudge: takes no arguments; give it the trace text on standard input: racejudge < TEXT\n",
             );
         }
-        Trouble::Unread => {
+        Trouble::CannotRead => {
             io::write_all(STDERR_FILENO, b"racejudge: cannot read standard input\n");
         }
-        Trouble::Unwritten => {
+        Trouble::CannotWrite => {
             io::write_all(STDERR_FILENO, b"racejudge: cannot write standard output\n");
         }
     }

@@ -13,8 +13,17 @@ cast-more c =
 add-total : tie.Need-add-total
 add-total c =
     let start = c .before .before in
-    let within = moved-fits (start .args .got) (start .args .filled) (start .args .room) (start .fits .got) (c .before .if1 .left) (start .pre .0) (start .pre .1) in
+    let a = start .args in
+    let within = moved-fits (a .got) (a .filled) (a .room) (start .fits .got) (c .before .if1 .left) (start .pre .0) (start .pre .1) in
     omega (arith, start .fits .room)
 
 pub decide-spec : {M : Type 1} → statement M
-decide-spec = tie.close (tie.spec (λ c. search decided-failed) cast-more (λ c. search decided-end) add-total (λ c. search decided-again) (λ c. search decided-full))
+decide-spec =
+    tie.close
+    (tie.spec
+    (λ c. search decided-failed)
+    cast-more
+    (λ c. search decided-end)
+    add-total
+    (λ c. search decided-again)
+    (λ c. search decided-full))
