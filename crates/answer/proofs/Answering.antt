@@ -27,9 +27,10 @@ use Rattle.text.specs.Answers.{translationReply, translatedOf}
 use Rattle.output.specs.Output.{output, Buffer, buffer, OUTPUT-BYTES, ofText, rendered}
 use Rattle.text.specs.declared.Translation.{Translation}
 use Rattle.text.specs.declared.Translation.the-variants.{Events, Refused as Turned}
+use Rattle.form.proofs.TextForm.{translation-decided, decided-translation}
 use Rattle.form.proofs.Accepted.{translation-at-most, Sized, slices-after}
 use Rattle.output.proofs.Rendered.{length-output}
-use Rattle.answer.specs.Answer.{Counts, zeros, judged, judgedEvents, printed, textAnswer, holding, answered, eventsRendered}
+use Rattle.answer.specs.Answer.{Counts, zeros, judged, judgedEvents, printed, textAnswer, holding, answered, AnsweredBy, eventsRendered}
 
 -- ---- the judge's outcome, rendered
 
@@ -164,6 +165,19 @@ module _ (text : List ℕ) (b : Slices) (sized : Sized b) (kinds tasks operands 
         by-reply (translation text) (λ es f. absurd (refused-not-says (sym said-refusal) (translated-says text b es f)))
         (λ number position f. let same = refused-injective (said-refusal ∙ translated-refused text b number position f) in
         e ∙ rw (f, same .0, same .1) (rendered-holding (refused number position) 0 [] [] out refl))
+
+-- ---- what the answer means
+
+pub answered-decided : (text out : List ℕ) (b : Buffer) → b ≡ answered text out → AnsweredBy text out b
+unfolding answered textAnswer
+answered-decided text out b e = record { reply = translation text; decided = translation-decided text; left = e }
+
+-- A text decides one answer and no other.
+pub answered-by-unique : {text out : List ℕ} {b₁ b₂ : Buffer} → AnsweredBy text out b₁ → AnsweredBy text out b₂ → b₁ ≡ b₂
+answered-by-unique {text} {out} d₁ d₂ =
+    d₁ .left
+    ∙ (ap (λ (z : Reply (List Event)). holding (printed z) out) (sym (decided-translation (d₁ .decided)) ∙ decided-translation (d₂ .decided))
+    ∙ sym (d₂ .left))
 
 -- ---- the answer fits the buffer
 

@@ -8,7 +8,7 @@ use lib.Dec.{leb}
 use lib.ListN.{length, take, drop, replicate}
 use Rattle.trace.specs.Trace.{Event, WORKSPACE-CELLS}
 use Rattle.trace.specs.Outcome.{Reply, says, refused, Outcome, judgeOutcome}
-use Rattle.form.specs.Decided.{MAX-TEXT-EVENTS}
+use Rattle.form.specs.Decided.{MAX-TEXT-EVENTS, Decided}
 use Rattle.form.specs.Translation.{translation}
 use Rattle.output.specs.Output.{output, Buffer, buffer, OUTPUT-BYTES, rendered}
 
@@ -43,6 +43,12 @@ holding bytes out = cond (leb OUTPUT-BYTES (length out)) (buffer (bytes ++ drop 
 -- THE BUFFER after the answer to a text.
 unfoldable pub answered : List ℕ → List ℕ → Buffer
 answered text out = holding (textAnswer text) out
+
+-- THE MEANING OF A BUFFER after the answer to a text: it holds what is printed of the events, or of the refusal, that the text decides.
+pub record AnsweredBy (text out : List ℕ) (b : Buffer) : Type 0 where
+  pub reply : Reply (List Event)
+  pub decided : Decided text reply
+  pub left : b ≡ holding (printed reply) out
 
 -- THE BUFFER AFTER THE ANSWER TO WHAT WAS READ, the first `count` bytes of `read`: it is that of the text that ends with them; and where they fill `read`, it
 -- is that of every text that begins with them, whatever follows.

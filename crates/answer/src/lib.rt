@@ -10,7 +10,7 @@ ghost use mathlib.Core.Path.{_≡_};
 ghost use mathlib.Core.List.{[]};
 ghost use Rattle.trace.specs.Outcome.{refused};
 ghost use Rattle.output.specs.Output.{buffer, rendered};
-ghost use Rattle.answer.specs.Answer.{eventsRendered, answered, AnswersRead, Counts};
+ghost use Rattle.answer.specs.Answer.{eventsRendered, answered, AnsweredBy, AnswersRead, Counts};
 
 // Room for the judge of 2,048 events.
 const CELLS: usize = WORKSPACE_CELLS + MAX_TEXT_EVENTS;
@@ -39,6 +39,7 @@ fn answer_refusal(refusal: Refusal, out: &mut [u8]) -> usize
 pub fn answer(text: &[u8], out: &mut [u8]) -> usize
     ensures answer { λ r. ⌜ buffer (now (out .exit)) r ≡ answered (now (text .entry)) (now (out .entry)) ⌝ }
     ensures within { λ r. ⌜ Counts r (now (out .exit)) ⌝ }
+    ensures form { λ r. ⌜ AnsweredBy (now (text .entry)) (now (out .entry)) (buffer (now (out .exit)) r) ⌝ }
 {
     let mut kinds = [0u8; MAX_TEXT_EVENTS];
     let mut tasks = [0u16; MAX_TEXT_EVENTS];

@@ -3,7 +3,7 @@
 use borrow.Author.Needs.{needs}
 use lib.Seq.{length-take-le}
 use mathlib.Core.Path.{sym}
-use Rattle.answer.proofs.Answering.{fresh-sized, room-kinds, room-tasks, room-operands, answer-events, answer-refusal, answered-within}
+use Rattle.answer.proofs.Answering.{fresh-sized, room-kinds, room-tasks, room-operands, answer-events, answer-refusal, answered-within, answered-decided}
 use Rattle.answer.proofs.answer.Statement.{statement}
 use Rattle.answer.proofs.answer.Tie as tie
 
@@ -32,7 +32,7 @@ returns c =
     let translated = matched .before .before in
     let e =
     answer-events _ _ fresh-sized _ _ _ _ (translated .translate .ensures .0) _ (matched .translation .given .1) _ _ (answering .answer-events .ensures) in
-    (e, answered-within _ _ _ _ e)
+    (e, (answered-within _ _ _ _ e, answered-decided _ _ _ e))
 
 returns-2 : tie.Need-returns-2
 returns-2 c =
@@ -41,7 +41,7 @@ returns-2 c =
     let translated = matched .before .before in
     let e =
     answer-refusal _ _ fresh-sized _ _ _ _ (translated .translate .ensures .0) _ (matched .translation2 .given .1) _ _ (answering .answer-refusal .ensures) in
-    (e, answered-within _ _ _ _ e)
+    (e, (answered-within _ _ _ _ e, answered-decided _ _ _ e))
 
 pub answer-spec : {M : Type 1} → statement M
 answer-spec =

@@ -16,13 +16,13 @@ returns : tie.Need-returns
 returns c =
     let answering = c .before .before in
     let fewer = answering .before .before .before in
-    (read-part _ _ _ _ _ (fewer .before .bytes .given .0) (fewer .if1 .taken) (answering .answer .ensures .0), answering .answer .ensures .1)
+    (read-part _ _ _ _ _ (fewer .before .bytes .given .0) (fewer .if1 .taken) (answering .answer .ensures .0), answering .answer .ensures .1 .0)
 
 returns-2 : tie.Need-returns-2
 returns-2 c =
     let answering = c .before .before in
     let all = answering .before .before in
-    (read-full _ _ _ _ _ (all .before .bytes .given .0) (all .if1 .left) (answering .answer2 .ensures .0), answering .answer2 .ensures .1)
+    (read-full _ _ _ _ _ (all .before .bytes .given .0) (all .if1 .left) (answering .answer2 .ensures .0), answering .answer2 .ensures .1 .0)
 
 pub answer-read-spec : {M : Type 1} → statement M
 answer-read-spec =
