@@ -19,7 +19,7 @@ use Rattle.input.specs.declared.Input.{Input}
 use Rattle.input.specs.declared.Input.the-variants.{Bytes, Failed, Arguments}
 use Rattle.input.specs.declared.Step.{Step}
 use Rattle.input.specs.declared.Step.the-variants.{Again, Ended}
-use Rattle.input.specs.Reading.{OneRead, decided, ReadOnce, Reads, none, more, Whole, full, ended, AsRead, ReadFailed, TextRead, Received}
+use Rattle.input.specs.Reading.{OneRead, decided, ReadOnce, Reads, none, more, full, ended, TextRead, Received}
 use Rattle.input.proofs.Deciding.{back}
 
 -- ---- one read

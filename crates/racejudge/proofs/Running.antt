@@ -1,9 +1,9 @@
 -- A run's output is the answer to all of standard input (`ran`): what was read decides, and in a buffer with room the first bytes are the answer. Assumes
 -- nothing.
-use Prim.Native.Nat.{ℕ, _≤_}
+use Prim.Native.Nat.{ℕ}
 use native.Mathlib.Omega.{arith}
-use mathlib.Core.Path.{_≡_, _∙_}
-use mathlib.Core.List.{List, [], _++_, append-nil}
+use mathlib.Core.Path.{_≡_}
+use mathlib.Core.List.{List, _++_, append-nil}
 use lib.ListN.{length, take}
 use Rattle.input.specs.declared.Input.{Input}
 use Rattle.input.specs.declared.Input.the-variants.{Bytes, Failed, Arguments}
@@ -11,7 +11,7 @@ use Rattle.input.specs.Reading.{Whole, full, ended, AsRead, Received}
 use Rattle.output.specs.Output.{OUTPUT-BYTES}
 use Rattle.answer.specs.Answer.{textAnswer, AnswersRead}
 use Rattle.answer.proofs.Answering.{answered-output}
-use Rattle.racejudge.specs.Program.{MayFollow, AnswersInput, Answers, Runs, Responds}
+use Rattle.racejudge.specs.Program.{MayFollow, AnswersInput, Runs, Responds}
 
 module _ (text out after : List ℕ) (used count : ℕ) (room : length out ≡ OUTPUT-BYTES) (answers : AnswersRead text count out after used) where
   whole-answer : (before bytes : List ℕ) → count ≡ length bytes → take count text ≡ bytes → (whole : Whole before bytes text) (rest : List ℕ)
