@@ -90,4 +90,8 @@ pub fn texts() {
     said(b"T0|r(V65535)|1\n", "refused 8 0\n");
     said(&b"T0|r(V5)|1\n".repeat(2_048), "clean 2048\n");
     said(&b"T0|r(V5)|1\n".repeat(2_049), "refused 15 2048\n");
+    // The program that reads no more than the decisive bytes reads just enough.
+    let longest = b"T65535|fork(T65535)|65535\n".repeat(2_049);
+    said(&longest[..text::DECISIVE_BYTES], "refused 15 2048\n");
+    said(&longest[..text::DECISIVE_BYTES - 1], "refused 14 2048\n");
 }
