@@ -36,7 +36,7 @@ const RUNS: [(&str, Answer); 21] = [
     ("0 halt 3", Refused(12, 0)),
 ];
 
-const WRITES_TWICE: &str = "0 fork 1, 1 write 5, 1 write 5, 1 halt, 0 read 5";
+pub const WRITES_TWICE: &str = "0 fork 1, 1 write 5, 1 write 5, 1 halt, 0 read 5";
 const JOINS_A_SIBLING: &str =
     "0 fork 1, 1 read 7, 1 halt, 0 read 7, 0 fork 2, 2 join 1, 2 halt, 0 write 7";
 
@@ -45,7 +45,7 @@ const ORDERS: [(&str, [&[u16]; 2]); 2] = [
     (JOINS_A_SIBLING, [&[0, 3, 4, 1, 7, 2, 5, 6], &[0, 3, 4, 7, 1, 2, 5, 6]]),
 ];
 
-fn trace(run: &str) -> Trace {
+pub fn trace(run: &str) -> Trace {
     let mut trace = Trace::default();
     for event in run.split(", ").filter(|event| !event.is_empty()) {
         let words: Vec<&str> = event.split(' ').collect();
