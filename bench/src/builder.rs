@@ -80,6 +80,20 @@ impl Builder {
         }
     }
 
+    /// Tasks halt until so many are left, the running one and its ancestors.
+    pub fn halt_down_to(&mut self, depth: usize) {
+        while self.depth() > depth {
+            self.halt();
+        }
+    }
+
+    /// The running task joins all that have halted.
+    pub fn join_all(&mut self) {
+        while self.halted() > 0 {
+            self.join();
+        }
+    }
+
     /// Whether an access by the running task would race with an earlier one.
     pub fn would_race(&self, kind: u8, location: u16) -> bool {
         let unordered = |tasks: &Vec<u16>| {

@@ -1,5 +1,5 @@
 //! The C interfaces that are linked. This module alone knows the form in which an answer comes
-//! back: all others compare a `Told` with that of the answer that they want.
+//! back: all others compare a `Told` with that of the answer that they want, or turn it into one.
 
 use crate::trace::{Answer, Ordering, Trace, WORKSPACE};
 
@@ -93,6 +93,28 @@ impl From<Ordering> for Told {
             Ordering::No => Told::new(0, 0, 0),
             Ordering::Yes => Told::new(1, 0, 0),
             Ordering::Refused(number, position) => Told::new(2, number, position),
+        }
+    }
+}
+
+impl From<Told> for Answer {
+    fn from(told: Told) -> Self {
+        let [a, b] = told.values.map(|value| value as usize);
+        match told.code {
+            0 => Answer::Clean,
+            1 => Answer::Race(a, b),
+            _ => Answer::Refused(a, b),
+        }
+    }
+}
+
+impl From<Told> for Ordering {
+    fn from(told: Told) -> Self {
+        let [number, position] = told.values.map(|value| value as usize);
+        match told.code {
+            0 => Ordering::No,
+            1 => Ordering::Yes,
+            _ => Ordering::Refused(number, position),
         }
     }
 }

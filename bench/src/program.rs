@@ -14,10 +14,10 @@ fn standard(descriptor: i32) -> ManuallyDrop<File> {
     ManuallyDrop::new(unsafe { File::from_raw_fd(descriptor) })
 }
 
-/// The whole of standard input. A read that fails ends the program.
-pub fn input() -> Vec<u8> {
+/// Standard input up to so many bytes: more is not waited for. A read that fails ends the program.
+pub fn input(most: usize) -> Vec<u8> {
     let mut input = Vec::new();
-    if let Err(error) = standard(0).read_to_end(&mut input) {
+    if let Err(error) = (&*standard(0)).take(most as u64).read_to_end(&mut input) {
         trouble(&format!("cannot read the text: {error}"));
     }
     input

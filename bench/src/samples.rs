@@ -71,9 +71,7 @@ pub fn valid(rng: &mut Rng, n: usize, care: usize) -> Trace {
         mix.step(&mut b, rng);
     }
     if rng.chance(1, 8) {
-        while b.depth() > 0 {
-            b.halt();
-        }
+        b.halt_down_to(0);
     }
     b.trace
 }

@@ -6,6 +6,13 @@ use crate::trace::*;
 /// The most events that a text may make.
 const MAX_TEXT_EVENTS: usize = 2_048;
 
+/// The longest line, `T65535|fork(T65535)|65535` and its line feed.
+const LINE_BYTES: usize = 26;
+
+/// So many bytes of a text decide, however long it is: each line makes an event, so the 2,049th
+/// line of the form is refused by 15 at the latest, and a line that is not of it by 14 before.
+pub const DECISIVE_BYTES: usize = (MAX_TEXT_EVENTS + 1) * LINE_BYTES;
+
 /// What is left of the text.
 struct Rest<'a>(&'a [u8]);
 

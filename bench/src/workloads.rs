@@ -61,33 +61,29 @@ pub fn pipeline(n: usize, rng: &mut Rng) -> Trace {
     for i in 0..spare {
         b.write(960 + (i % 64) as u16);
     }
-    let mut made = 0;
-    for item in 0.. {
-        if made == tasks {
-            break;
+    for item in 0..tasks.div_ceil(stages) {
+        for stage in 0..stages.min(tasks - item * stages) {
+            work(&mut b, rng, item, stage, each);
         }
-        for stage in 0..stages.min(tasks - made) {
-            b.fork();
-            if item > 0 {
-                b.join();
-            }
-            for _ in 0..each {
-                match rng.below(8) {
-                    0..=2 => touch_one(&mut b, rng, stage as u16 * 14, 14),
-                    3..=6 => touch_one(&mut b, rng, 448 + (item % 32) * 16, 16),
-                    _ => b.read(960 + rng.cell(64)),
-                }
-            }
-            made += 1;
-        }
-        while b.depth() > 1 {
-            b.halt();
-        }
+        b.halt_down_to(1);
     }
-    while b.halted() > 0 {
+    b.join_all();
+    b.trace
+}
+
+/// The task of an item at a stage, up to the fork of the next.
+fn work(b: &mut Builder, rng: &mut Rng, item: usize, stage: usize, accesses: usize) {
+    b.fork();
+    if item > 0 {
         b.join();
     }
-    b.trace
+    for _ in 0..accesses {
+        match rng.below(8) {
+            0..=2 => touch_one(b, rng, stage as u16 * 14, 14),
+            3..=6 => touch_one(b, rng, 448 + (item % 32) as u16 * 16, 16),
+            _ => b.read(960 + rng.cell(64)),
+        }
+    }
 }
 
 /// Halves a range of locations until one task for each is left (depth 10 for 32,768 events): fork
@@ -125,10 +121,15 @@ fn halve(b: &mut Builder, rng: &mut Rng, depth: u32, low: u16, unit: u16, at_lea
 /// Task 0 reads and writes at random.
 fn alone(n: usize, rng: &mut Rng) -> Trace {
     let mut b = Builder::default();
-    while b.trace.len() < n {
-        touch_one(&mut b, rng, 0, LOCATIONS);
-    }
+    fill(&mut b, rng, n, LOCATIONS);
     b.trace
+}
+
+/// The running task reads and writes at random up to n events.
+fn fill(b: &mut Builder, rng: &mut Rng, n: usize, locations: usize) {
+    while b.trace.len() < n {
+        touch_one(b, rng, 0, locations);
+    }
 }
 
 /// Joins only groups of equal size, so that the chains grow as long as they can (10 links for
@@ -183,6 +184,14 @@ pub fn join_equals(
     b.join();
 }
 
+/// A child makes such a group of 2^depth tasks, itself among them, and the running task joins it.
+fn join_group(b: &mut Builder, rng: &mut Rng, depth: u32, owned: &[Vec<u16>], at_leaf: usize) {
+    b.fork();
+    join_equals(b, rng, depth, 0, owned, at_leaf);
+    b.halt();
+    b.join();
+}
+
 /// Task 0 joins groups of 2, 4, .., 256, each greater than its own, so that it ends 8 links below
 /// its top. Then tasks come one after the other and touch locations that task 0 touched last; after
 /// the join task 0 takes them back. A judge that notes the accessing task climbs the whole chain at
@@ -191,10 +200,7 @@ fn deep_task(n: usize, rng: &mut Rng) -> Trace {
     let mut b = Builder::default();
     let deep = (children(n) + 1).ilog2() - 1;
     for power in 1..deep {
-        b.fork();
-        join_equals(&mut b, rng, power, 0, &vec![Vec::new(); 1 << power], 0);
-        b.halt();
-        b.join();
+        join_group(&mut b, rng, power, &vec![Vec::new(); 1 << power], 0);
     }
     let locations = LOCATIONS.min(n / 8);
     for l in 0..locations {
@@ -205,20 +211,19 @@ fn deep_task(n: usize, rng: &mut Rng) -> Trace {
     for _ in 0..rounds {
         let first = rng.below(LOCATIONS);
         let place = |i: usize| ((first + i * 37) % locations) as u16;
-        b.fork();
-        for i in 0..each {
-            b.touch(rng, place(i));
-        }
-        b.halt();
-        b.join();
-        for i in 0..each {
-            b.write(place(i));
-        }
+        take_back(&mut b, rng, (0..each).map(place));
     }
-    while b.trace.len() < n {
-        touch_one(&mut b, rng, 0, locations);
-    }
+    fill(&mut b, rng, n, locations);
     b.trace
+}
+
+/// A child touches the places and is joined, and then its parent writes them.
+fn take_back(b: &mut Builder, rng: &mut Rng, places: impl Iterator<Item = u16> + Clone) {
+    b.fork();
+    places.clone().for_each(|l| b.touch(rng, l));
+    b.halt();
+    b.join();
+    places.for_each(|l| b.write(l));
 }
 
 /// 15 times a group of equals grows (64 tasks for 32,768 events) whose deepest task touched many
@@ -235,18 +240,13 @@ pub fn regrown(n: usize, rng: &mut Rng) -> Trace {
     for _ in 0..TIMES {
         rng.shuffle(&mut places);
         owned[tasks - 1] = places[..each].to_vec();
-        b.fork();
-        join_equals(&mut b, rng, depth, 0, &owned, each);
-        b.halt();
-        b.join();
+        join_group(&mut b, rng, depth, &owned, each);
         rng.shuffle(&mut places[..each]);
         for &l in &places[..each] {
             b.touch(rng, l);
         }
     }
-    while b.trace.len() < n {
-        touch_one(&mut b, rng, 0, LOCATIONS);
-    }
+    fill(&mut b, rng, n, LOCATIONS);
     b.trace
 }
 

@@ -2,10 +2,10 @@
 //! same form as the proved program, so that the two outputs can be compared.
 
 use racejudge_bench::program::{input, print};
-use racejudge_bench::text;
+use racejudge_bench::text::{answer, DECISIVE_BYTES};
 use racejudge_bench::words;
 
 fn main() {
     words::slow(words::given());
-    print(&text::answer(&input()));
+    print(&answer(&input(DECISIVE_BYTES)));
 }

@@ -1,7 +1,7 @@
 // Calls drawn at random, from a seed.
 use crate::Call;
 use crate::asking;
-use crate::known::roomy;
+use crate::roomy;
 use test_cells::less;
 use test_cells::more;
 use test_cells::plus;

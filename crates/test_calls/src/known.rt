@@ -7,7 +7,6 @@ use test_cells::get;
 use test_cells::get_word;
 use test_cells::more;
 use test_cells::plus;
-use test_slow::Sizes;
 
 // Of each run: how many events, how many cells of each order are told, the answer with its two numbers; then the events, and then the two orders. Answers
 // how many cells the table has, as read_table does.
@@ -88,18 +87,6 @@ pub fn told(cells: &[u16], at: usize) -> Reply {
         return make_reply(plus(REFUSED, x), y, 0);
     }
     make_reply(verdict, x, y)
-}
-
-// The slices of a trace of n events, with buffers longer than they need be.
-pub fn roomy(n: usize) -> Sizes {
-    Sizes {
-        kinds: n,
-        tasks: n,
-        operands: n,
-        ws: plus(n, 12300),
-        first: plus(n, 2),
-        second: plus(n, 3),
-    }
 }
 
 // How many cells n events have.

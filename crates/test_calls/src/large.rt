@@ -5,11 +5,11 @@ use crate::make_reply;
 use crate::wanting;
 use test_cells::plus;
 use test_cells::put_word;
-use test_samples::events::Event;
 use test_samples::events::FORK;
 use test_samples::events::HALT;
 use test_samples::events::READ;
 use test_samples::events::WRITE;
+use test_samples::events::make_event;
 use test_samples::events::put_event;
 use test_slow::Sizes;
 
@@ -34,15 +34,7 @@ pub fn asking(p: usize, case: usize) -> Call {
 }
 
 pub fn put_one(events: &mut [u16], p: usize, task: usize, kind: usize, operand: usize) {
-    put_event(
-        events,
-        p,
-        Event {
-            task,
-            kind,
-            operand,
-        },
-    );
+    put_event(events, p, make_event(task, kind, operand));
 }
 
 // `0 fork 1`, `1 write 6`, `1 halt`, reads of location 0 by task 0, and last `0 read 6`; where a cell is not set here it is 0.

@@ -133,6 +133,18 @@ pub fn wanting(mut call: Call, want: Reply) -> Call {
     call
 }
 
+// The slices of a trace of n events, with buffers longer than they need be.
+pub fn roomy(n: usize) -> Sizes {
+    Sizes {
+        kinds: n,
+        tasks: n,
+        operands: n,
+        ws: plus(n, 12300),
+        first: plus(n, 2),
+        second: plus(n, 3),
+    }
+}
+
 // What must come of a call: what is told with it, or else what the slow one answers.
 pub fn wanted(
     kinds: &[u8],

@@ -1,8 +1,8 @@
 // Wrong expectations, as a table: a comparison that does not notice them would notice no wrong judge either.
 use crate::Call;
 use crate::Plant;
-use crate::known::roomy;
 use crate::known::told;
+use crate::roomy;
 use crate::table::CELLS;
 use crate::table::read_table;
 use test_cells::get;
@@ -17,8 +17,8 @@ pub fn lay_events(events: &mut [u16]) {
     );
 }
 
-// Of each plant: how many of the events are judged, or asked whether the first reaches the fifth; the answer that is told, or SLOW for what the slow judge
-// says; and a cell of a buffer, which is expected wrong. But for one thing all is right. Answers how many cells the table has, as read_table does.
+// Of each plant: how many of the events; the judge, or the ordering call for 0 and 4; the answer that is told, or SLOW for what the slow one says; the buffer
+// and its cell that is expected wrong. But for one thing all is right. Answers how many cells the table has, as read_table does.
 pub fn read_plants(cells: &mut [u16]) -> usize {
     read_table(
         b"

@@ -1,5 +1,5 @@
-// Tables as text: numbers in base ten, and a word for each kind of event, each verdict, each call and each buffer. Each makes a cell; what stands between them makes none, and a
-// comment goes from # to the end of its line.
+// Tables as text: numbers in base ten, and a word for each kind of event, verdict, call and buffer. Each makes a cell; what stands between them makes none,
+// and a comment goes from # to the end of its line.
 use crate::CLEAN;
 use crate::FIRST;
 use crate::NO;

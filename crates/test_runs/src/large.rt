@@ -1,4 +1,7 @@
 // Traces of 32,768 events, too many for the slow judge: what must come of them is written out here.
+use crate::outcome::Outcome;
+use crate::outcome::make_outcome;
+use crate::outcome::with;
 use test_calls::CLEAN;
 use test_calls::NO;
 use test_calls::RACE;
@@ -8,7 +11,6 @@ use test_calls::large::judging;
 use test_calls::large::lay_race;
 use test_calls::large::put_orders;
 use test_calls::make_reply;
-use test_cells::more;
 use test_compare::agrees;
 
 // "32,768 reads by task 0: clean". Behind the events of a call stand reads by task 0.
@@ -23,43 +25,19 @@ fn race(events: &[u16], memory: &mut [usize]) -> bool {
     agrees(events, judging(make_reply(RACE, 1, 32767)), memory)
 }
 
-// How many of three hold, one after the other.
-pub fn held(first: bool, second: bool, third: bool) -> usize {
-    if !first {
-        return 0;
-    }
-    if !second {
-        return 1;
-    }
-    if !third {
-        return 2;
-    }
-    3
+// The race, and that the fork reaches the last event and the child's write does not.
+fn race_and_pairs(events: &[u16], before: Outcome, memory: &mut [usize]) -> Outcome {
+    let first = with(before, race(events, memory));
+    let second = with(first, agrees(events, asking(0, YES), memory));
+    with(second, agrees(events, asking(1, NO), memory))
 }
 
-// The race, and that the fork reaches the last event and the child's write does not: how many hold, one after the other.
-fn race_and_pairs(events: &[u16], memory: &mut [usize]) -> usize {
-    let first = race(events, memory);
-    let second = agrees(events, asking(0, YES), memory);
-    let third = agrees(events, asking(1, NO), memory);
-    held(first, second, third)
-}
-
-fn on_race_in(events: &mut [u16; 98304], memory: &mut [usize]) -> usize {
+fn try_in(events: &mut [u16; 98304], memory: &mut [usize]) -> Outcome {
     lay_race(events);
-    race_and_pairs(events, memory)
+    race_and_pairs(events, with(make_outcome(0, true), reads(memory)), memory)
 }
 
-fn on_race(memory: &mut [usize]) -> usize {
+pub fn try_all(memory: &mut [usize]) -> Outcome {
     let mut events = [0u16; 98304];
-    on_race_in(&mut events, memory)
-}
-
-pub const COUNT: usize = 4;
-
-// How many of these came out as written here, one after the other.
-pub fn agreed(memory: &mut [usize]) -> usize {
-    let clean = reads(memory);
-    let others = on_race(memory);
-    if clean { more(others) } else { 0 }
+    try_in(&mut events, memory)
 }

@@ -1,5 +1,7 @@
 // Traces that have all 1,024 tasks in the line at once: both judges and both ordering calls must answer as written here.
-use crate::large::held;
+use crate::outcome::Outcome;
+use crate::outcome::make_outcome;
+use crate::outcome::with;
 use test_calls::CLEAN;
 use test_calls::Call;
 use test_calls::NO;
@@ -9,11 +11,11 @@ use test_calls::Reply;
 use test_calls::YES;
 use test_calls::asking;
 use test_calls::judging;
-use test_calls::known::roomy;
 use test_calls::lines::lay_nest;
 use test_calls::lines::lay_row;
 use test_calls::lines::swap_joins;
 use test_calls::make_reply;
+use test_calls::roomy;
 use test_calls::same_reply;
 use test_cells::less;
 use test_cells::plus;
@@ -60,17 +62,13 @@ fn wrong_row(events: &mut [u16], memory: &mut [usize]) -> bool {
 }
 
 // Each trace is laid over the one before it.
-fn agreed_in(events: &mut [u16; 12288], memory: &mut [usize]) -> usize {
-    let nested = nest(events, memory);
-    let joined = row(events, memory);
-    let refused = wrong_row(events, memory);
-    held(nested, joined, refused)
+fn try_in(events: &mut [u16; 12288], memory: &mut [usize]) -> Outcome {
+    let nested = with(make_outcome(0, true), nest(events, memory));
+    let joined = with(nested, row(events, memory));
+    with(joined, wrong_row(events, memory))
 }
 
-pub const COUNT: usize = 3;
-
-// How many of these came out as written here, one after the other.
-pub fn agreed(memory: &mut [usize]) -> usize {
+pub fn try_all(memory: &mut [usize]) -> Outcome {
     let mut events = [0u16; 12288];
-    agreed_in(&mut events, memory)
+    try_in(&mut events, memory)
 }

@@ -109,19 +109,11 @@ fn try_sizes(memory: &mut [usize]) -> bool {
 }
 
 fn try_large(memory: &mut [usize]) -> bool {
-    let agreed = large::agreed(memory);
-    all_agree(
-        b"calls on 32768 events: ",
-        make_outcome(agreed, agreed == large::COUNT),
-    )
+    all_agree(b"calls on 32768 events: ", large::try_all(memory))
 }
 
 fn try_lines(memory: &mut [usize]) -> bool {
-    let agreed = lines::agreed(memory);
-    all_agree(
-        b"lines of 1024 tasks: ",
-        make_outcome(agreed, agreed == lines::COUNT),
-    )
+    all_agree(b"lines of 1024 tasks: ", lines::try_all(memory))
 }
 
 fn run(memory: &mut [usize; test_slow::MEMORY]) {

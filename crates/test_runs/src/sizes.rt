@@ -1,9 +1,8 @@
 // Rows 1 to 4 of document 01's table, and the largest traces: reads by task 0 in slices of many lengths.
 use crate::outcome::Outcome;
 use crate::tables::go_through;
-use test_calls::CLEAN;
-use test_calls::MISMATCH;
 use test_calls::REFUSED;
+use test_calls::YES;
 use test_calls::asking;
 use test_calls::judging;
 use test_calls::lengths::lengths;
@@ -15,16 +14,21 @@ use test_cells::plus;
 use test_compare::compare;
 use test_slow::Sizes;
 
-// "It has no order buffers, so refusal 4 is absent"; rows 1 to 3 are as for the judge. The read at position 0 reaches itself, if it is there.
+// The case of the ordering call's answer where the judge's is this one. "It has no order buffers, so refusal 4 is absent": past rows 1 to 3 the read at
+// position 0 reaches itself, if it is there.
+fn ordering_case(case: usize, n: usize) -> usize {
+    if (REFUSED < case) & (case < plus(REFUSED, 4)) {
+        return case;
+    }
+    if n == 0 {
+        return plus(REFUSED, 13);
+    }
+    YES
+}
+
 fn asked(sizes: Sizes, case: usize, events: &[u16], run: usize, memory: &mut [usize]) -> bool {
-    if plus(REFUSED, 3) < case {
-        return true;
-    }
     let answer = compare(events, asking(sizes, 0, 0, run), memory);
-    if case == CLEAN {
-        return answer.case != MISMATCH;
-    }
-    same_reply(answer, make_reply(case, 0, 0))
+    same_reply(answer, make_reply(ordering_case(case, sizes.kinds), 0, 0))
 }
 
 pub fn run_agrees(cells: &[u16], run: usize, events: &[u16], memory: &mut [usize]) -> bool {

@@ -6,6 +6,7 @@ use crate::events::FORK;
 use crate::events::HALT;
 use crate::events::JOIN;
 use crate::events::event_at;
+use crate::events::make_event;
 use crate::events::put_event;
 use crate::growth::kind_of;
 use test_cells::least;
@@ -35,27 +36,15 @@ fn too_large(least: usize, largest: usize, seed: usize) -> usize {
 
 // The event with another kind and operand.
 fn with(event: Event, kind: usize, operand: usize) -> Event {
-    Event {
-        task: event.task,
-        kind,
-        operand,
-    }
+    make_event(event.task, kind, operand)
 }
 
 // The event as it meets the row of this number. `used` is the number of a task that has acted.
 fn damaged(event: Event, number: usize, used: usize, seed: usize) -> Event {
     match number {
         5 => with(event, too_large(5, 255, seed), event.operand),
-        6 => Event {
-            task: 0,
-            kind: HALT,
-            operand: 0,
-        },
-        7 => Event {
-            task: below(seed, 1100),
-            kind: event.kind,
-            operand: event.operand,
-        },
+        6 => make_event(0, HALT, 0),
+        7 => make_event(below(seed, 1100), event.kind, event.operand),
         8 => with(event, kind_of(8, seed), too_large(1024, 65535, next(seed))),
         9 => with(event, FORK, too_large(1024, 65535, seed)),
         10 => with(event, FORK, used),

@@ -21,6 +21,14 @@ pub struct Event {
     pub operand: usize,
 }
 
+pub fn make_event(task: usize, kind: usize, operand: usize) -> Event {
+    Event {
+        task,
+        kind,
+        operand,
+    }
+}
+
 // Where event p stands.
 fn place(p: usize) -> usize {
     (p % 65536) * 3
@@ -28,11 +36,11 @@ fn place(p: usize) -> usize {
 
 pub fn event_at(events: &[u16], p: usize) -> Event {
     let at = place(p);
-    Event {
-        task: get(events, at),
-        kind: get(events, plus(at, 1)),
-        operand: get(events, plus(at, 2)),
-    }
+    make_event(
+        get(events, at),
+        get(events, plus(at, 1)),
+        get(events, plus(at, 2)),
+    )
 }
 
 pub fn put_event(events: &mut [u16], p: usize, event: Event) {

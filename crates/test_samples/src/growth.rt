@@ -9,6 +9,7 @@ use crate::events::JOIN;
 use crate::events::READ;
 use crate::events::WRITE;
 use crate::events::event_at;
+use crate::events::make_event;
 use crate::events::put_event;
 use crate::shapes::Shape;
 use test_cells::get;
@@ -63,44 +64,26 @@ pub fn kind_of(writes: usize, seed: usize) -> usize {
 
 // An access at random.
 fn wild(task: usize, shape: Shape, seed: usize) -> Event {
-    Event {
+    make_event(
         task,
-        kind: kind_of(shape.writes, seed),
-        operand: minus(1023, below(next(seed), shape.locations)),
-    }
+        kind_of(shape.writes, seed),
+        minus(1023, below(next(seed), shape.locations)),
+    )
 }
 
 // An access that races with none: the location has the number of the task, or of the one that the task has just joined. Location 0 is read by all, and
 // written by task 0 while it is alone.
 fn careful(last: Event, task: usize, kind: usize, alone: bool, seed: usize) -> Event {
     if last.kind == JOIN {
-        let operand = last.operand;
-        return Event {
-            task,
-            kind,
-            operand,
-        };
+        return make_event(task, kind, last.operand);
     }
     if task == 0 {
-        let kind = if alone { kind } else { READ };
-        return Event {
-            task,
-            kind,
-            operand: 0,
-        };
+        return make_event(task, if alone { kind } else { READ }, 0);
     }
     if below(seed, 3) == 0 {
-        return Event {
-            task,
-            kind: READ,
-            operand: 0,
-        };
+        return make_event(task, READ, 0);
     }
-    Event {
-        task,
-        kind,
-        operand: task,
-    }
+    make_event(task, kind, task)
 }
 
 fn access(last: Event, task: usize, shape: Shape, now: Growth) -> Event {
@@ -137,11 +120,7 @@ fn event_of(last: Event, table: &[u16], shape: Shape, now: Growth) -> Event {
     if kind == READ {
         return access(last, task, shape, now);
     }
-    Event {
-        task,
-        kind,
-        operand: operand(table, kind, now),
-    }
+    make_event(task, kind, operand(table, kind, now))
 }
 
 // A forked child comes on the stack of the running, and a task that halts on that of the halted.
@@ -229,14 +208,6 @@ pub fn grown(events: &mut [u16], table: &mut [u16], shape: Shape, seed: usize) -
     if !ends(now) {
         return now.count;
     }
-    put_event(
-        events,
-        now.count,
-        Event {
-            task: 0,
-            kind: HALT,
-            operand: 0,
-        },
-    );
+    put_event(events, now.count, make_event(0, HALT, 0));
     more(now.count)
 }

@@ -1,26 +1,18 @@
 // A tree of tasks whose joins give the judge's union-find forest its longest chains of links.
 use crate::draws::below;
 use crate::draws::seed_of;
-use crate::events::Event;
 use crate::events::FORK;
 use crate::events::HALT;
 use crate::events::JOIN;
 use crate::events::READ;
 use crate::events::WRITE;
+use crate::events::make_event;
 use crate::events::put_event;
 use test_cells::get;
 use test_cells::least;
 use test_cells::less;
 use test_cells::more;
 use test_cells::plus;
-
-fn event(task: usize, kind: usize, operand: usize) -> Event {
-    Event {
-        task,
-        kind,
-        operand,
-    }
-}
 
 // The place of the task that forks the one at a place: that without its lowest bit.
 fn parent(child: usize) -> usize {
@@ -30,11 +22,11 @@ fn parent(child: usize) -> usize {
 // A task halts, and its parent joins it.
 fn give_back(events: &mut [u16], table: &[u16], child: usize, n: usize) {
     let name = get(table, child);
-    put_event(events, n, event(name, HALT, 0));
+    put_event(events, n, make_event(name, HALT, 0));
     put_event(
         events,
         more(n),
-        event(get(table, parent(child)), JOIN, name),
+        make_event(get(table, parent(child)), JOIN, name),
     );
 }
 
@@ -55,8 +47,8 @@ fn fold(events: &mut [u16], table: &[u16], task: usize, from: usize) -> usize {
 // A task is forked, and writes its own location.
 fn sprout(events: &mut [u16], table: &[u16], task: usize, n: usize) -> usize {
     let name = get(table, task);
-    put_event(events, n, event(get(table, parent(task)), FORK, name));
-    put_event(events, more(n), event(name, WRITE, name));
+    put_event(events, n, make_event(get(table, parent(task)), FORK, name));
+    put_event(events, more(n), make_event(name, WRITE, name));
     fold(events, table, task, plus(n, 2))
 }
 
@@ -77,7 +69,7 @@ fn look_back(events: &mut [u16], table: &[u16], tasks: usize, from: usize, to: u
         put_event(
             events,
             n,
-            event(0, READ, get(table, below(seed_of(n), tasks))),
+            make_event(0, READ, get(table, below(seed_of(n), tasks))),
         );
         n += 1;
     }

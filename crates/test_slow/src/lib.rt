@@ -7,6 +7,7 @@ mod rules;
 
 use events::Event;
 use events::event_at;
+use test_cells::plus;
 use trace::Answer;
 use trace::Ordering;
 use trace::Refusal;
@@ -16,6 +17,12 @@ pub const EVENTS: usize = memory::EVENTS;
 pub const ORDERS: usize = memory::ORDERS;
 
 pub const MEMORY: usize = memory::MEMORY;
+
+// "At most 32,768 events."
+const MOST_EVENTS: usize = 32768;
+
+// "The workspace has at least 12,288 cells more than the trace has events."
+const WORKSPACE: usize = 12288;
 
 fn refused(number: usize, position: usize) -> Answer {
     Answer::Refused(Refusal { number, position })
@@ -113,10 +120,10 @@ fn size_row(sizes: Sizes) -> usize {
     if sizes.operands != n {
         return 1;
     }
-    if 32768 < n {
+    if MOST_EVENTS < n {
         return 2;
     }
-    if sizes.ws < 12288 + n {
+    if sizes.ws < WORKSPACE + n {
         return 3;
     }
     0
@@ -161,7 +168,7 @@ pub fn judge(
 pub fn cleared(refusal: usize, n: usize) -> usize {
     match refusal {
         1 | 2 | 3 | 4 => 0,
-        _ => test_cells::plus(12288, n),
+        _ => plus(WORKSPACE, n),
     }
 }
 

@@ -7,6 +7,7 @@ use crate::events::find;
 use crate::memory::LEFT;
 use crate::memory::PARENT;
 use test_cells::get_word;
+use test_cells::plus;
 use test_cells::put_word;
 
 // No task: at the left end of the line, and running after task 0 has halted.
@@ -14,7 +15,7 @@ pub const NOBODY: usize = 1024;
 
 // The cell of a task in the table from this cell on.
 fn cell(table: usize, task: usize) -> usize {
-    table % 1048576 + task % 1025
+    plus(table, task % 1025)
 }
 
 // "At the start the line holds task 0 alone, and it runs."

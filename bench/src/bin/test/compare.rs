@@ -12,7 +12,7 @@ use racejudge_bench::trace::*;
 use std::fmt::{Debug, Display};
 use std::sync::Arc;
 
-const JUDGES: [&Judge; 3] = [&PROVED, &HAND, &ALIGNED];
+pub const JUDGES: [&Judge; 3] = [&PROVED, &HAND, &ALIGNED];
 
 /// Cells on either side of each lent slice that must stay as they are.
 const GUARD: usize = 16;
@@ -85,9 +85,9 @@ fn dirt(rng: &mut Rng) -> Vec<u16> {
 
 pub struct Test {
     pub rng: Rng,
-    slow: Ancestors,
+    pub slow: Ancestors,
     fasttrack: FastTrack,
-    dirt: Vec<u16>,
+    pub dirt: Vec<u16>,
     judged: Counts,
     ordered: Counts,
     /// The greatest of the traces that were found clean.
@@ -124,6 +124,7 @@ impl Test {
         self.judge_with(trace, workspace, first, second)
     }
 
+    /// What the library itself answers, which is counted.
     pub fn judge_with(
         &mut self,
         trace: &Trace,
@@ -132,22 +133,10 @@ impl Test {
         second: usize,
     ) -> Answer {
         let wanted = self.slow.judge(trace, workspace, first, second);
-        let (first_order, second_order) = wanted.orders.clone().unwrap_or_default();
-        for judge in JUDGES {
-            let (call, copy) = (format!("{}, judge", judge.name), Arc::new(trace.clone()));
-            let mut w = self.buffer(workspace);
-            let (mut f, mut s) = (self.buffer(first), self.buffer(second));
-            let told = watched(&call, &copy, || judge.judge(&copy, w.lend(), f.lend(), s.lend()));
-            let differences = [
-                ("answer", answer_difference(told, wanted.said)),
-                ("trace", trace_difference(&copy, trace)),
-                ("workspace", w.difference(&vec![0; wanted.cleared])),
-                ("first order buffer", f.difference(&first_order)),
-                ("second order buffer", s.difference(&second_order)),
-            ];
-            check(&call, trace, &wanted, &differences);
-        }
-        match wanted.said {
+        let lent = [workspace, first, second];
+        let told = JUDGES.map(|judge| held(self.judged_by(judge, trace, lent, &wanted)));
+        let said = Answer::from(told[0]);
+        match said {
             Answer::Clean => {
                 self.judged.plain[0] += 1;
                 self.extent = self.extent.max(Extent::of(trace));
@@ -155,8 +144,31 @@ impl Test {
             Answer::Race(..) => self.judged.plain[1] += 1,
             Answer::Refused(row, _) => self.judged.rows[row] += 1,
         }
-        self.same_race(trace, wanted.said);
-        wanted.said
+        self.same_race(trace, said);
+        said
+    }
+
+    /// What one judge tells, or how that or what it leaves differs from what is wanted.
+    pub fn judged_by(
+        &mut self,
+        judge: &Judge,
+        trace: &Trace,
+        [workspace, first, second]: [usize; 3],
+        wanted: &Outcome<Answer>,
+    ) -> Result<Told, String> {
+        let (call, copy) = (format!("{}, judge", judge.name), Arc::new(trace.clone()));
+        let mut w = self.buffer(workspace);
+        let (mut f, mut s) = (self.buffer(first), self.buffer(second));
+        let told = watched(&call, &copy, || judge.judge(&copy, w.lend(), f.lend(), s.lend()));
+        let (first_order, second_order) = wanted.orders.clone().unwrap_or_default();
+        let differences = [
+            ("answer", answer_difference(told, wanted.said)),
+            ("trace", trace_difference(&copy, trace)),
+            ("workspace", w.difference(&vec![0; wanted.cleared])),
+            ("first order buffer", f.difference(&first_order)),
+            ("second order buffer", s.difference(&second_order)),
+        ];
+        first_difference(&call, trace, wanted, differences).map_or(Ok(told), Err)
     }
 
     /// FastTrack knows no rules; where they are kept it must see the same race.
@@ -189,24 +201,36 @@ impl Test {
         q: usize,
     ) -> Ordering {
         let wanted = self.slow.ordering(trace, workspace, p, q);
-        for judge in JUDGES {
-            let call = format!("{}, ordering {p} {q}", judge.name);
-            let copy = Arc::new(trace.clone());
-            let mut w = self.buffer(workspace);
-            let told = watched(&call, &copy, || judge.ordering(&copy, w.lend(), p, q));
-            let differences = [
-                ("answer", answer_difference(told, wanted.said)),
-                ("trace", trace_difference(&copy, trace)),
-                ("workspace", w.difference(&vec![0; wanted.cleared])),
-            ];
-            check(&call, trace, &wanted, &differences);
-        }
-        match wanted.said {
+        let told =
+            JUDGES.map(|judge| held(self.ordered_by(judge, trace, workspace, [p, q], &wanted)));
+        let said = Ordering::from(told[0]);
+        match said {
             Ordering::No => self.ordered.plain[0] += 1,
             Ordering::Yes => self.ordered.plain[1] += 1,
             Ordering::Refused(row, _) => self.ordered.rows[row] += 1,
         }
-        wanted.said
+        said
+    }
+
+    /// What one judge tells, or how that or what it leaves differs from what is wanted.
+    pub fn ordered_by(
+        &mut self,
+        judge: &Judge,
+        trace: &Trace,
+        workspace: usize,
+        [p, q]: [usize; 2],
+        wanted: &Outcome<Ordering>,
+    ) -> Result<Told, String> {
+        let call = format!("{}, ordering {p} {q}", judge.name);
+        let copy = Arc::new(trace.clone());
+        let mut w = self.buffer(workspace);
+        let told = watched(&call, &copy, || judge.ordering(&copy, w.lend(), p, q));
+        let differences = [
+            ("answer", answer_difference(told, wanted.said)),
+            ("trace", trace_difference(&copy, trace)),
+            ("workspace", w.difference(&vec![0; wanted.cleared])),
+        ];
+        first_difference(&call, trace, wanted, differences).map_or(Ok(told), Err)
     }
 
     /// The judge, now and then also on short buffers, and the ordering call on a few pairs.
@@ -289,16 +313,18 @@ pub fn known<T: Debug + PartialEq>(found: T, wanted: T, on: impl Display) {
     }
 }
 
-/// Ends the test at the first difference.
-fn check<T: Debug>(
+/// Ends the test where something differs.
+fn held(told: Result<Told, String>) -> Told {
+    told.unwrap_or_else(|difference| mismatch(&difference))
+}
+
+fn first_difference<T: Debug, const N: usize>(
     call: &str,
     trace: &Trace,
     wanted: &Outcome<T>,
-    differences: &[(&str, Option<String>)],
-) {
-    for (what, difference) in differences {
-        if let Some(difference) = difference {
-            mismatch(&format!("{call}: {what} {difference}\n{wanted:?}\non {trace}"));
-        }
-    }
+    differences: [(&str, Option<String>); N],
+) -> Option<String> {
+    differences.into_iter().find_map(|(what, difference)| {
+        difference.map(|difference| format!("{call}: {what} {difference}\n{wanted:?}\non {trace}"))
+    })
 }

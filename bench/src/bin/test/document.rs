@@ -36,7 +36,7 @@ const RUNS: [(&str, Answer); 21] = [
     ("0 halt 3", Refused(12, 0)),
 ];
 
-const WRITES_TWICE: &str = "0 fork 1, 1 write 5, 1 write 5, 1 halt, 0 read 5";
+pub const WRITES_TWICE: &str = "0 fork 1, 1 write 5, 1 write 5, 1 halt, 0 read 5";
 const JOINS_A_SIBLING: &str =
     "0 fork 1, 1 read 7, 1 halt, 0 read 7, 0 fork 2, 2 join 1, 2 halt, 0 write 7";
 
@@ -45,7 +45,7 @@ const ORDERS: [(&str, [&[u16]; 2]); 2] = [
     (JOINS_A_SIBLING, [&[0, 3, 4, 1, 7, 2, 5, 6], &[0, 3, 4, 7, 1, 2, 5, 6]]),
 ];
 
-fn trace(run: &str) -> Trace {
+pub fn trace(run: &str) -> Trace {
     let mut trace = Trace::default();
     for event in run.split(", ").filter(|event| !event.is_empty()) {
         let words: Vec<&str> = event.split(' ').collect();
@@ -90,4 +90,8 @@ pub fn texts() {
     said(b"T0|r(V65535)|1\n", "refused 8 0\n");
     said(&b"T0|r(V5)|1\n".repeat(2_048), "clean 2048\n");
     said(&b"T0|r(V5)|1\n".repeat(2_049), "refused 15 2048\n");
+    // The program that reads no more than the decisive bytes reads just enough.
+    let longest = b"T65535|fork(T65535)|65535\n".repeat(2_049);
+    said(&longest[..text::DECISIVE_BYTES], "refused 15 2048\n");
+    said(&longest[..text::DECISIVE_BYTES - 1], "refused 14 2048\n");
 }

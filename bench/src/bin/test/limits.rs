@@ -41,12 +41,6 @@ fn all_tasks(each: fn(&mut Builder), last: fn(&mut Builder)) -> Trace {
     b.trace
 }
 
-fn join_all(b: &mut Builder) {
-    while b.halted() > 0 {
-        b.join();
-    }
-}
-
 /// Each task forks a child, which touches location 7.
 fn nested(b: &mut Builder) {
     b.fork();
@@ -74,7 +68,7 @@ fn tasks(test: &mut Test) {
         b.join();
     };
     let joined_late = |b: &mut Builder| {
-        join_all(b);
+        b.join_all();
         b.write(7);
     };
     let clean = [

@@ -6,6 +6,7 @@
 mod compare;
 mod document;
 mod limits;
+mod plants;
 mod watch;
 
 use compare::{known, Test};
@@ -96,6 +97,7 @@ fn main() {
     watch::start();
     let mut test = Test::new(seed as u64);
     document::runs(&mut test);
+    print(&format!("{} wrong expectations noticed\n", plants::all()));
     document::texts();
     every_short(&mut test, &Trace::default(), 0, 5);
     limits::all(&mut test);
