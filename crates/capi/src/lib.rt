@@ -32,7 +32,7 @@ pub extern "C" fn racejudge_judge(
 ) -> u64
     ensures { λ r. ⌜ judgeSeen r (now (values .exit)) (now (ws .exit)) (now (first .exit)) (now (second .exit))
         ≡ judgeCall (judgeOutcome (now (kinds .entry)) (now (tasks .entry)) (now (operands .entry))
-            (now (ws .entry)) (now (first .entry)) (now (second .entry))) ⌝ }
+        (now (ws .entry)) (now (first .entry)) (now (second .entry))) ⌝ }
 {
     let answer = judge::judge(kinds, tasks, operands, ws, first, second);
     match answer {

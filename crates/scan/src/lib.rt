@@ -73,7 +73,13 @@ fn turn(
 }
 
 // All events, from the starting line on.
-pub fn first_failure(kinds: &[u8], tasks: &[u16], operands: &[u16], ws: &mut [u16], start: Line) -> Found
+pub fn first_failure(
+    kinds: &[u8],
+    tasks: &[u16],
+    operands: &[u16],
+    ws: &mut [u16],
+    start: Line,
+) -> Found
     requires { ⌜ Sized (now kinds) (now tasks) (now operands) (now ws) (length (now kinds)) ⌝ }
     requires { ⌜ JudgeAt (lentTrace kinds tasks operands) (length (now kinds)) 0 (now ws) start ⌝ }
     ensures { λ r. ⌜ FoundSays (lentTrace (kinds .entry) (tasks .entry) (operands .entry)) (length (now (kinds .entry)))
