@@ -59,6 +59,17 @@ pub no-halts : translation (printAll (lineOf 0 Fork 1 1 ∷ lineOf 1 Fork 0 2 �
 unfolding computed
 no-halts = refl
 
+-- `T0|fork(T1)|1`, `T0|join(T1)|2`, `T0|r(V5)|3`: 1 halts before it is joined, and a join pushes nothing.
+pub join-pushes-nothing :
+    translation
+    (84 ∷ 48 ∷ 124 ∷ 102 ∷ 111 ∷ 114 ∷ 107 ∷ 40 ∷ 84 ∷ 49 ∷ 41 ∷ 124 ∷ 49 ∷ 10
+    ∷ 84 ∷ 48 ∷ 124 ∷ 106 ∷ 111 ∷ 105 ∷ 110 ∷ 40 ∷ 84 ∷ 49 ∷ 41 ∷ 124 ∷ 50 ∷ 10
+    ∷ 84 ∷ 48 ∷ 124 ∷ 114 ∷ 40 ∷ 86 ∷ 53 ∷ 41 ∷ 124 ∷ 51 ∷ 10
+    ∷ [])
+    ≡ says (event 2 0 1 ∷ event 4 1 0 ∷ event 3 0 1 ∷ event 0 0 5 ∷ [])
+unfolding computed
+join-pushes-nothing = refl
+
 -- ---- row 14
 
 -- `T0|r(5)|1`: no letter before the operand.

@@ -135,7 +135,13 @@ module _ (start before after : List ℕ) (filled : ℕ) (begun : Begun start bef
   pub turned : (step step′ : Step) → ReadOnce filled before after step → step ≡ step′ → Turned start after filled step′
   turned step step′ once e = rw (sym e ∙ once .decides) (turned-by (once .got) (once .read))
 
--- ---- the row of `receive` with no arguments
+-- ---- what `Received` says of the words, and the row of `receive` with no arguments
+
+-- With arguments the buffer is as it was.
+pub received-arguments : (words : ℕ) (start after : List ℕ) (input : Input) → 1 < words → Received words start after input → (input ≡ Arguments) × (after ≡ start)
+received-arguments words start after (Bytes count) h received = let few = received .0 in absurd (omega arith)
+received-arguments words start after Failed h received = let few = received .0 in absurd (omega arith)
+received-arguments words start after Arguments h received = (refl, received .1)
 
 pub received-alone : (words : ℕ) (start after : List ℕ) (input : Input) → words ≤ 1 → TextRead start after input → Received words start after input
 received-alone words start after (Bytes count) h read = (h, read)

@@ -1,5 +1,6 @@
--- WHAT IS READ. The C library's contract of `read` has the number that it gave, and says nothing of the bytes. So what was read is stated over the reads that
--- were made. Assumes nothing.
+-- WHAT IS READ. The C library's contract of `read` bounds the number that it gives, and says nothing of the bytes. So what was read is stated over reads: there
+-- are some that give this buffer and this count. That they are the calls which the code makes no contract can say: it is trusted of the few lines that make
+-- them. What the number of a read decides is no matter of trust: `decided` is an equation. Assumes nothing.
 use Prim.Native.Nat.{ℕ, zero, suc, _+_, _-_, _≤_, _<_}
 use mathlib.Core.Path.{_≡_}
 use mathlib.Core.Bool.{cond}

@@ -1,6 +1,7 @@
 -- THE DEMANDS DECIDE. An answer, a workspace and two order buffers that meet demands 1 to 3 are those of the judge's outcome, for everything that can be
--- lent (`judge-decided`); and likewise of the ordering call (`ordering-decided`). So whoever believes the demands has no need to read the outcome, and a
--- demand that is weakened no longer decides. Assumes nothing.
+-- lent (`judge-decided`); and likewise of the ordering call (`ordering-decided`). So whoever believes the demands need not believe the outcome, but for the
+-- size checks, which both cite; and a field that decides cannot be weakened. (Some of the owner's sentences follow from the others, as that on clean traces
+-- follows from demand 2.) Assumes nothing.
 use Prim.Native.Nat.{ℕ, suc, _+_, _<_}
 use mathlib.Core.Path.{_≡_, refl, sym, _∙_}
 use mathlib.Core.Bool.{Bool, true, false}
