@@ -138,7 +138,8 @@ module _ (start before after : List ℕ) (filled : ℕ) (begun : Begun start bef
 -- ---- what `Received` says of the words, and the row of `receive` with no arguments
 
 -- With arguments the buffer is as it was.
-pub received-arguments : (words : ℕ) (start after : List ℕ) (input : Input) → 1 < words → Received words start after input → (input ≡ Arguments) × (after ≡ start)
+pub received-arguments : (words : ℕ) (start after : List ℕ) (input : Input) → 1 < words → Received words start after input
+    → (input ≡ Arguments) × (after ≡ start)
 received-arguments words start after (Bytes count) h received = let few = received .0 in absurd (omega arith)
 received-arguments words start after Failed h received = let few = received .0 in absurd (omega arith)
 received-arguments words start after Arguments h received = (refl, received .1)

@@ -40,8 +40,8 @@ fn decide(got: isize, filled: usize, room: usize) -> Step
 }
 
 // One read, into the bytes of the buffer behind the first `filled`. The contract says that there is a number which decides. That it is the number which the C
-// library's `read` gave, and that the bytes which `read` put there are the next of the input, no contract can say: the two lines that lend it the rest of the
-// buffer and take its number are trusted.
+// library's `read` gave, and that the bytes which `read` put there are the next of the input, no contract can say: that `read` is lent the rest of the buffer
+// and its number handed on is trusted, here and in the loop below, and tested.
 fn read_more(text: &mut [u8], filled: usize) -> Step
     requires { ⌜ filled ≤ length (now text) ⌝ }
     ensures { λ r. ⌜ ReadOnce filled (now (text .entry)) (now (text .exit)) r ⌝ }

@@ -15,7 +15,7 @@ abbrev pub MayFollow : {before bytes after : List ℕ} → Whole before bytes af
 MayFollow (full _ _) rest = Unit {0}
 MayFollow (ended _) rest = rest ≡ []
 
--- THE OUTPUT is the answer to all of standard input: the bytes that the reads gave, in order, and what follows them.
+-- THE OUTPUT is the answer to every input that gives these reads: to the bytes that they gave, in order, and whatever may follow them.
 pub record AnswersInput (start text : List ℕ) (count : ℕ) (output : List ℕ) : Type 0 where
   pub read : AsRead start text count
   pub answer : (rest : List ℕ) → MayFollow (read .whole) rest → output ≡ textAnswer (read .bytes ++ rest)
