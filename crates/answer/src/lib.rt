@@ -1,6 +1,6 @@
 // The program's answer to a text, from its bytes to the bytes of the whole output.
-use judge::WORKSPACE_CELLS;
 pub use output::OUTPUT_BYTES;
+use sizes::WORKSPACE_CELLS;
 use text::Translation;
 use text::limits::MAX_TEXT_EVENTS;
 pub use text::limits::TEXT_BYTES;

@@ -8,7 +8,8 @@ use Rattle.trace.specs.declared.Ordering.{Ordering}
 use Rattle.trace.specs.declared.Refusal.{Refusal}
 use Rattle.trace.specs.Outcome.{Outcome, OrderingOutcome}
 use Rattle.trace.specs.Answers.{judgeReply, orderingReply}
-use Rattle.judge.specs.Entry.{judgeGives, orderingGives}
+use Rattle.judge.specs.Entry.{judgeGives}
+use Rattle.ordering.specs.Asks.{orderingGives}
 use Rattle.capi.specs.Codes.{judgeTold, judgeCall, judgeSeen, orderingTold, orderingCall, orderingSeen}
 
 module _ (answer : Answer) (workspace first second : List ℕ) (o : Outcome) (e : judgeGives answer workspace first second ≡ o) where

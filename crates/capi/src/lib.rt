@@ -65,7 +65,7 @@ pub extern "C" fn racejudge_ordering(
     ensures { λ r. ⌜ orderingSeen r (now (values .exit)) (now (ws .exit))
         ≡ orderingCall (orderingOutcome (now (kinds .entry)) (now (tasks .entry)) (now (operands .entry)) (now (ws .entry)) p q) ⌝ }
 {
-    let answer = judge::ordering(kinds, tasks, operands, ws, p, q);
+    let answer = ordering::ordering(kinds, tasks, operands, ws, p, q);
     match answer {
         Ordering::No => {
             *values = [0, 0];

@@ -1,5 +1,4 @@
--- Laws that belong to no one function. Crates above use Cells, Chains (`chain-few`), Tops, Start, Merged, United and Frame.
-pub mod Cells
+-- Laws that belong to no one function. Crates above use Chains (`chain-few`), Tops, Start, Merged, United and Frame.
 pub mod Count
 pub mod Merged
 pub mod Chains

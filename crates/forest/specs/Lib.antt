@@ -1,3 +1,2 @@
 -- The definitions that the contracts cite, in the order in which to read them.
-pub mod Cells
 pub mod Forest

@@ -1,3 +1,3 @@
--- The laws of the entry points.
+-- The laws of the judge.
+pub mod Deciding
 pub mod Judging
-pub mod Asking

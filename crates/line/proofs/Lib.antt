@@ -1,9 +1,7 @@
 -- The laws that tie the cells to the run of a trace, and what the functions of this crate need.
-pub mod Rests
 pub mod Bounds
 pub mod Rows
 pub mod Moves
-pub mod Locations
 pub mod EventLaw
-pub mod AccessLaw
+pub mod Events
 pub mod Depths

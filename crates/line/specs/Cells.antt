@@ -4,26 +4,17 @@ use mathlib.Core.Bool.{Bool, not}
 use mathlib.Core.List.{List}
 use lib.Dec.{eqb}
 use lib.ListN.{getD, set}
-use Rattle.forest.specs.Cells.{zeroed}
-use Rattle.forest.specs.Forest.{topOf, united, stays}
+use Rattle.cells.specs.Cells.{zeroed}
 use Rattle.line.specs.declared.Line.{Line}
 
 -- ---- the tables, each of 1,024 cells
 
--- At a group's top: not 0 where the group is that of a task left of the running one.
-abbrev pub IN-LEFT : ℕ
-IN-LEFT = 2048
-
--- Not 0 where the task's number has been used.
+-- Not 0 where the task's number has been used: the one table that is read before it is written.
 abbrev pub USED : ℕ
-USED = 3072
+USED = 0
 
--- For each location a task of the group that a read of it is held against, and one of the group that a write is.
-abbrev pub AGAINST-READ : ℕ
-AGAINST-READ = 4096
-
-abbrev pub AGAINST-WRITE : ℕ
-AGAINST-WRITE = 5120
+abbrev pub USED-CELLS : ℕ
+USED-CELLS = 1024
 
 -- The tasks left of the running one, the nearest last.
 abbrev pub LEFT : ℕ
@@ -32,10 +23,6 @@ LEFT = 7168
 -- The active tasks, the running one last.
 abbrev pub ACTIVE : ℕ
 ACTIVE = 8192
-
--- The tables that are read before they are written.
-abbrev pub CLEARED : ℕ
-CLEARED = 6144
 
 -- ---- what the cells say
 
@@ -49,38 +36,24 @@ runningIn c line = getD c (ACTIVE + line .active - 1) 0
 abbrev pub nearestIn : List ℕ → Line → ℕ
 nearestIn c line = getD c (LEFT + line .left - 1) 0
 
--- The task's group is that of a task left of the running one.
-unfoldable pub isLeftIn : List ℕ → ℕ → Bool
-isLeftIn c t = not (eqb (getD c (IN-LEFT + topOf c t) 0) 0)
-
 -- The task's number has been used.
 unfoldable pub isUsedIn : List ℕ → ℕ → Bool
 isUsedIn c t = not (eqb (getD c (USED + t) 0) 0)
 
--- ---- what the moves leave
+-- ---- what the moves leave; a join stores nothing
 
--- What is stored in USED for a task that is forked, and in IN-LEFT for a group that is joined.
+-- What is stored in USED for a task that is forked.
 abbrev pub NOW-USED : ℕ
 NOW-USED = 1
 
-abbrev pub NOT-LEFT : ℕ
-NOT-LEFT = 0
-
 -- Task 0 alone, used, and running.
 unfoldable pub startedIn : List ℕ → List ℕ
-startedIn c = set (set (zeroed CLEARED c) (USED + 0) 1) (ACTIVE + 0) 0
+startedIn c = set (set (zeroed USED-CELLS c) (USED + 0) 1) (ACTIVE + 0) 0
 
 -- The child is used, and on top of the active tasks.
 unfoldable pub forkedIn : List ℕ → Line → ℕ → List ℕ
 forkedIn c line child = set (set c (ACTIVE + line .active) child) (USED + child) NOW-USED
 
--- The running task's group is now left of the running task.
+-- The running task is now left of the one that resumes.
 unfoldable pub haltedIn : List ℕ → Line → List ℕ
-haltedIn c line = set (set c (LEFT + line .left) (runningIn c line)) (IN-LEFT + topOf c (runningIn c line)) 1
-
--- The left neighbour's group is one with the running task's, which is active.
-unfoldable pub joinedIn : List ℕ → Line → List ℕ
-joinedIn c line =
-    let a = topOf c (runningIn c line) in
-    let b = topOf c (nearestIn c line) in
-    set (united c a b) (IN-LEFT + stays c a b) NOT-LEFT
+haltedIn c line = set c (LEFT + line .left) (runningIn c line)

@@ -2,5 +2,4 @@
 pub mod Rules
 pub mod Cells
 pub mod Steps
-pub mod Accesses
 pub mod Held

@@ -10,7 +10,7 @@ use Rattle.line.specs.declared.Line.{Line}
 use Rattle.line.specs.declared.Rule.{Rule}
 use Rattle.line.specs.declared.Rule.the-variants.{Access, Fork, Join, Halt, Unknown}
 use Rattle.line.specs.Rules.{ruleOf}
-use Rattle.line.specs.Cells.{depths, runningIn, nearestIn, isUsedIn, forkedIn, haltedIn, joinedIn}
+use Rattle.line.specs.Cells.{depths, runningIn, nearestIn, isUsedIn, forkedIn, haltedIn}
 
 -- The next line or the row met, and the cells.
 pub record Stepped : Type 0 where
@@ -56,9 +56,7 @@ module _ (c : List ℕ) (line : Line) where
   forkIn a = rowIn c 9 (leb TASKS a) (rowIn c 10 (isUsedIn c a) (goes (afterIn line Fork) (forkedIn c line a)))
 
   unfoldable pub joinIn : ℕ → Stepped
-  joinIn a =
-      rowIn c 11 (eqb (line .left) 0)
-      (rowIn c 11 (not (eqb (nearestIn c line) a)) (goes (afterIn line Join) (joinedIn c line)))
+  joinIn a = rowIn c 11 (eqb (line .left) 0) (rowIn c 11 (not (eqb (nearestIn c line) a)) (goes (afterIn line Join) c))
 
   unfoldable pub haltIn : ℕ → Stepped
   haltIn a = rowIn c 12 (not (eqb a 0)) (goes (afterIn line Halt) (haltedIn c line))
@@ -71,8 +69,10 @@ module _ (c : List ℕ) (line : Line) where
   actIn Halt a = haltIn a
   actIn Unknown a = record { result = fails 5; cells = c }
 
+  -- An event of this task: rows 6 and 7, then the row for its kind.
+  unfoldable pub taskIn : Rule → ℕ → ℕ → Stepped
+  taskIn rule task a = rowIn c 6 (eqb (line .active) 0) (rowIn c 7 (not (eqb task (runningIn c line))) (actIn rule a))
+
   -- One event: its kind, its task and its operand.
   unfoldable pub eventIn : ℕ → ℕ → ℕ → Stepped
-  eventIn kind task a =
-      rowIn c 5 (not (isKind kind))
-      (rowIn c 6 (eqb (line .active) 0) (rowIn c 7 (not (eqb task (runningIn c line))) (actIn (ruleOf kind) a)))
+  eventIn kind task a = rowIn c 5 (not (isKind kind)) (taskIn (ruleOf kind) task a)

@@ -1,3 +1,3 @@
 -- The laws of the ordering call.
-pub mod OrderingTest
-pub mod OrderingAnswer
+pub mod Answering
+pub mod Asking

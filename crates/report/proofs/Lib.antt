@@ -1,6 +1,5 @@
 -- The laws of what a race leaves.
-pub mod ReportingCells
 pub mod ReportingPartner
+pub mod ReportingStores
 pub mod ReportingOrders
-pub mod ReportingReach
-pub mod ReportingResult
+pub mod Reporting

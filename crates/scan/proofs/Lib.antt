@@ -1,3 +1,4 @@
--- The laws of the access loop and of the main loop.
-pub mod Skipping
-pub mod Turning
+-- Laws of the tables, of the loop, and of what it finds: the last is what the crates above use.
+pub mod Largest
+pub mod Scanning
+pub mod Racing

@@ -1,3 +1,3 @@
--- What the main loop's contracts cite, in the order in which to read it.
-pub mod State
-pub mod Turns
+-- What the contracts cite, in the order in which to read it.
+pub mod Numbered
+pub mod Tables

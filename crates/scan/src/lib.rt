@@ -1,110 +1,102 @@
-// The main loop of the judge: the events in position order, each held to the rules and then to the race test.
-ghost use Prim.Native.Nat.{_≤_, _<_};
-ghost use lib.ListN.{length};
-ghost use Rattle.trace.specs.Lent.{lentTrace};
-ghost use Rattle.trace.proofs.Sizes.{Sized};
-ghost use Rattle.scan.specs.State.{JudgeAt, StoppedAt, SkippedTo};
-ghost use Rattle.scan.specs.Turns.{TurnSays, FoundSays};
-use line::Line;
+// The race test by numbers alone. Each event has the number of its segment, and of two accesses that conflict the later one races with the earlier exactly if
+// its number is smaller. So the largest number of those that an access conflicts with decides, and for each location and kind of access that is one cell.
+ghost use mathlib.Core.Path.{_≡_};
+ghost use mathlib.Core.Bool.{true};
+ghost use Prim.Native.Nat.{max, _≤_};
+ghost use Rattle.trace.specs.Trace.{isAccess};
+ghost use Rattle.cells.specs.Cells.{SameFrom};
+ghost use Rattle.ranks.specs.States.{ownNumber};
+ghost use Rattle.scan.specs.Numbered.{Numbered, FirstRace};
+ghost use Rattle.scan.specs.Tables.{TOUCHED, TABLES, tableOf, alsoKept, heldAgainst, Testable, keptIn, TestSays};
 
-mod accesses;
+// For each location the largest number of an earlier write, and of any earlier access; 0 where there is none.
+const WRITTEN: usize = 0;
 
-// What one event leads to, where it is no access that passes.
-pub enum Taken {
-    Next(Line),
-    Broken(usize),
-    Racing,
+const TOUCHED: usize = 1024;
+
+// The cells of both.
+const TABLES: usize = 2048;
+
+const LOCATIONS: usize = trace::LOCATIONS as usize;
+
+// The table that an access is held against: WRITTEN for a read, TOUCHED for a write. It is computed, since no processor can predict a branch on the kind.
+fn table_of(kind: u8) -> usize
+    requires { ⌜ isAccess kind ≡ true ⌝ }
+    ensures { λ r. ⌜ (r ≡ tableOf kind) × (r ≤ TOUCHED) ⌝ }
+{
+    WRITTEN + LOCATIONS * kind as usize
 }
 
-// What the events lead to: the row and the position of the first that breaks a rule, or the position of the first that races.
-pub enum Found {
-    Clean,
-    Refused(usize, usize),
-    Race(usize),
+// The table that an access is kept in beside TOUCHED: WRITTEN for a write. A read has none, so it is kept in TOUCHED again, which costs less than a branch.
+fn also_kept(kind: u8) -> usize
+    requires { ⌜ isAccess kind ≡ true ⌝ }
+    ensures { λ r. ⌜ (r ≡ alsoKept kind) × (r ≤ TOUCHED) ⌝ }
+{
+    TOUCHED - LOCATIONS * kind as usize
 }
 
-// The position of the first event from `from` on that is no access of the running task that passes; `from` where task 0 has halted.
-fn take_accesses(
+// The largest number that an access is held against.
+fn held_against(ws: &[u16], kind: u8, location: u16) -> u16
+    requires { ⌜ Testable (now ws) kind location ⌝ }
+    ensures { λ r. ⌜ r ≡ heldAgainst (now (ws .entry)) kind location ⌝ }
+{
+    cells::cell(ws, table_of(kind), location)
+}
+
+fn larger(x: u16, y: u16) -> u16
+    ensures { λ r. ⌜ r ≡ max x y ⌝ }
+{
+    if x < y { y } else { x }
+}
+
+// An access with number x that passed is one of those that later ones are held against.
+fn keep(ws: &mut [u16], kind: u8, location: u16, x: u16)
+    requires { ⌜ Testable (now ws) kind location ⌝ }
+    ensures { λ _. ⌜ now (ws .exit) ≡ keptIn (now (ws .entry)) kind location x ⌝ }
+{
+    let largest = larger(cells::cell(ws, TOUCHED, location), x);
+    cells::put(ws, TOUCHED, location, largest);
+    cells::put(ws, also_kept(kind), location, largest);
+}
+
+// Whether an access with number x passes: no earlier one that it conflicts with has a larger number. If so, it is kept.
+fn passes(ws: &mut [u16], kind: u8, location: u16, x: u16) -> bool
+    requires { ⌜ Testable (now ws) kind location ⌝ }
+    ensures { λ r. ⌜ TestSays (now (ws .entry)) (now (ws .exit)) kind location x r ⌝ }
+{
+    if x < held_against(ws, kind, location) {
+        return false;
+    }
+    keep(ws, kind, location, x);
+    true
+}
+
+// The position of the first access that races with an earlier one; `events` where there is none. Events before `from` have number 0: none of them races with
+// an earlier one, and none has the larger number.
+pub fn first_race(
     kinds: &[u8],
-    tasks: &[u16],
     operands: &[u16],
     ws: &mut [u16],
-    line: Line,
     from: usize,
+    events: usize,
 ) -> usize
-    requires { ⌜ Sized (now kinds) (now tasks) (now operands) (now ws) (length (now kinds)) ⌝ }
-    requires { ⌜ from ≤ length (now kinds) ⌝ }
-    requires { ⌜ JudgeAt (lentTrace kinds tasks operands) (length (now kinds)) from (now ws) line ⌝ }
-    ensures { λ r. ⌜ SkippedTo (lentTrace (kinds .entry) (tasks .entry) (operands .entry)) (length (now (kinds .entry)))
-        from (now (ws .entry)) (now (ws .exit)) line r ⌝ }
+    requires { ⌜ Numbered (now kinds) (now operands) (now ws) from events ⌝ }
+    ensures { λ r. ⌜ FirstRace (now (kinds .entry)) (now (operands .entry)) (ownNumber (now (kinds .entry)) (now (ws .entry))) events r ⌝ }
+    ensures { λ _. ⌜ SameFrom TABLES (now (ws .entry)) (now (ws .exit)) ⌝ }
 {
-    if line.active == 0 {
-        return from;
-    }
-    let x = line::running(ws, line);
-    let top = line::top_of(ws, x);
-    accesses::skip(kinds, tasks, operands, ws, x, top, from)
-}
-
-// One event that is no access that passes. An access that keeps the rules here is one that races.
-fn turn(
-    kinds: &[u8],
-    tasks: &[u16],
-    operands: &[u16],
-    ws: &mut [u16],
-    line: Line,
-    i: usize,
-) -> Taken
-    requires { ⌜ Sized (now kinds) (now tasks) (now operands) (now ws) (length (now kinds)) ⌝ }
-    requires { ⌜ i < length (now kinds) ⌝ }
-    requires { ⌜ StoppedAt (lentTrace kinds tasks operands) (length (now kinds)) i (now ws) line ⌝ }
-    ensures { λ r. ⌜ TurnSays (lentTrace (kinds .entry) (tasks .entry) (operands .entry)) (length (now (kinds .entry)))
-        i (now (ws .entry)) (now (ws .exit)) r ⌝ }
-{
-    let kind = kinds[i];
-    let row = line::event(ws, line, kind, tasks[i], operands[i]);
-    if row != 0 {
-        return Taken::Broken(row);
-    }
-    if line::is_access(kind) {
-        return Taken::Racing;
-    }
-    Taken::Next(line::after(line, kind))
-}
-
-// All events, from the starting line on.
-pub fn first_failure(
-    kinds: &[u8],
-    tasks: &[u16],
-    operands: &[u16],
-    ws: &mut [u16],
-    start: Line,
-) -> Found
-    requires { ⌜ Sized (now kinds) (now tasks) (now operands) (now ws) (length (now kinds)) ⌝ }
-    requires { ⌜ JudgeAt (lentTrace kinds tasks operands) (length (now kinds)) 0 (now ws) start ⌝ }
-    ensures { λ r. ⌜ FoundSays (lentTrace (kinds .entry) (tasks .entry) (operands .entry)) (length (now (kinds .entry)))
-        (now (ws .entry)) (now (ws .exit)) r ⌝ }
-{
-    let mut line = start;
-    let mut i = 0;
-    while i < kinds.len() {
-        i = take_accesses(kinds, tasks, operands, ws, line, i);
-        if kinds.len() <= i {
-            return Found::Clean;
+    cells::clear(ws, TABLES);
+    let mut current: u16 = 0;
+    let mut t = from;
+    while t < events {
+        let kind = kinds[t];
+        if trace::is_access(kind) {
+            if !passes(ws, kind, operands[t], ranks::open_number(ws, current)) {
+                return t;
+            }
+        } else {
+            current += 1;
         }
-        let taken = turn(kinds, tasks, operands, ws, line, i);
-        match taken {
-            Taken::Next(next) => {
-                line = next;
-            }
-            Taken::Broken(number) => {
-                return Found::Refused(number, i);
-            }
-            Taken::Racing => {
-                return Found::Race(i);
-            }
-        }
-        i += 1;
+        t += 1;
     }
-    Found::Clean
+    t
 }

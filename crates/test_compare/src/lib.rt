@@ -89,7 +89,7 @@ fn judged(
 
 fn order(kinds: &[u8], tasks: &[u16], operands: &[u16], ws: &mut [u16], call: Call) -> Reply {
     let w = least(call.sizes.ws, ws.len());
-    reply_of_ordering(judge::ordering(kinds, tasks, operands, &mut ws[0..w], call.p, call.q))
+    reply_of_ordering(ordering::ordering(kinds, tasks, operands, &mut ws[0..w], call.p, call.q))
 }
 
 fn ordered_in(

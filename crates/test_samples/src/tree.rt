@@ -1,4 +1,4 @@
-// A tree of tasks whose joins give the judge's union-find forest its longest chains of links.
+// A tree of tasks whose joins make the longest chains of links in a table of joins.
 use crate::draws::below;
 use crate::draws::seed_of;
 use crate::events::FORK;

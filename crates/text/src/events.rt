@@ -3,6 +3,11 @@ use crate::limits::MAX_TEXT_EVENTS;
 use crate::limits::STACK_CELLS;
 use form::Line;
 use form::Operation;
+use trace::FORK;
+use trace::HALT;
+use trace::JOIN;
+use trace::READ;
+use trace::WRITE;
 ghost use mathlib.Core.Path.{_≡_};
 ghost use Prim.Native.Nat.{_-_, _≤_, _<_};
 ghost use lib.ListN.{length};
@@ -10,8 +15,6 @@ ghost use Rattle.trace.specs.Slices.{slices, store, storeAll};
 ghost use Rattle.form.specs.Events.{kindOf, haltOperand, implied, halts, pushed};
 ghost use Rattle.form.specs.Decided.{MAX-TEXT-EVENTS};
 ghost use Rattle.text.specs.Answers.{tasksOf, STACK-CELLS, StackAfter, HaltsFit, added, addedOf};
-
-const HALT: u8 = 4;
 
 // What a line leaves: the number of events and the depth of the stack.
 pub enum Added {
@@ -23,10 +26,10 @@ fn kind_of(operation: Operation) -> u8
     ensures { λ r. ⌜ r ≡ kindOf operation ⌝ }
 {
     match operation {
-        Operation::Read => 0,
-        Operation::Write => 1,
-        Operation::Fork => 2,
-        Operation::Join => 3,
+        Operation::Read => READ,
+        Operation::Write => WRITE,
+        Operation::Fork => FORK,
+        Operation::Join => JOIN,
     }
 }
 

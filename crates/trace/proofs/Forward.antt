@@ -34,8 +34,8 @@ two-events n p q h i older second first both =
     (λ j. either (last-or-below q n i) (second j) (older j))
 
 module _ (haltRule : Line → ℕ) (tr : Trace) where
-  module _ {n : ℕ} {left paused used : List ℕ} {group last : ℕ → ℕ}
-      (run : Run haltRule tr n left (tr .task n ∷ paused) used group last) (before : InOrder tr n left (tr .task n ∷ paused) used) where
+  module _ {n : ℕ} {left paused used : List ℕ} {last : ℕ → ℕ}
+      (run : Run haltRule tr n left (tr .task n ∷ paused) used last) (before : InOrder tr n left (tr .task n ∷ paused) used) where
     fork-first-next : (tr .kind n ≡ FORK → In (tr .operand n) used → ⊥) → (p q : ℕ) → p < suc n → q < suc n → tr .kind p ≡ FORK →
         tr .task q ≡ tr .operand p → p < q
     fork-first-next new p q h i k e =
@@ -71,7 +71,7 @@ module _ (haltRule : Line → ℕ) (tr : Trace) where
           join-last = join-last-next;
         }
 
-  in-order : {n : ℕ} {left active used : List ℕ} {group last : ℕ → ℕ} → Run haltRule tr n left active used group last → InOrder tr n left active used
+  in-order : {n : ℕ} {left active used : List ℕ} {last : ℕ → ℕ} → Run haltRule tr n left active used last → InOrder tr n left active used
   in-order start =
       record {
         joined-out = λ q h. absurd (omega arith);
@@ -102,7 +102,7 @@ module _ (haltRule : Line → ℕ) (tr : Trace) where
       (λ y i. halted-in-line (tr .task n) left paused y) (λ y i. i)
 
   -- The arcs among the events of a run lead forward.
-  pub run-forward : {n : ℕ} {left active used : List ℕ} {group last : ℕ → ℕ} → Run haltRule tr n left active used group last → Forward tr n
+  pub run-forward : {n : ℕ} {left active used : List ℕ} {last : ℕ → ℕ} → Run haltRule tr n left active used last → Forward tr n
   run-forward run p q (to-next h i a b) = h
   run-forward run p q (to-child h i a b c) = in-order run .fork-first p q h i a b
   run-forward run p q (to-join h i a b c) = in-order run .join-last p q h i a b c

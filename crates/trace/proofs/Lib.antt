@@ -1,5 +1,5 @@
 -- The theory of the definitions in `specs/`, with no code in sight. The headline theorems stand in Demand1, Demand2, Demand3, OrderingCall, LaterEvents,
--- PairMatters, OrderLemma and AccessLemma; Table holds the computed † runs and examples of refusals.
+-- PairMatters and DemandsDecide; Numbers is what the crates above find paths by; Table holds the computed † runs and examples of refusals.
 pub mod Tests
 pub mod Lists
 pub mod Stacks
@@ -11,12 +11,10 @@ pub mod TwoStacks
 pub mod Forward
 pub mod Tips
 pub mod TaskZero
-pub mod OrderLemma
-pub mod Leftmost
-pub mod AccessLemma
 pub mod Congruence
 pub mod OrderFacts
 pub mod Conflicts
+pub mod Numbers
 pub mod Searches
 pub mod Sizes
 pub mod Demand2

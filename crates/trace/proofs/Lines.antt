@@ -4,7 +4,8 @@ use mathlib.Core.Path.{_≡_, refl, sym, ap, _∙_}
 use mathlib.Core.Bool.{Bool, true, false, cond}
 use native.Mathlib.Omega.{arith}
 use lib.Dec.{eqb}
-use Rattle.trace.specs.Trace.{Trace, FORK, JOIN, isAccess}
+use borrow.Author.Tests.{leb-false}
+use Rattle.trace.specs.Trace.{Trace, FORK, JOIN, isAccess, LOCATIONS}
 use Rattle.trace.specs.Line.{Line, Checked, passes, fails, row, start, haltOperand, stepByKind, step, stepAfter, lineAfter}
 use Rattle.trace.specs.Graph.{isPassed, graphEvents}
 use Rattle.trace.specs.Demands.{KeepsRules, BreaksFirst, graphOf}
@@ -92,6 +93,15 @@ module _ (haltRule : Line → ℕ) (tr : Trace) where
   graph-all zero line e = refl
   graph-all (suc n) line e = rw (e, isPassed)
 
+  -- Never more than there are.
+  pub graph-le : (n : ℕ) → graphEvents haltRule tr n ≤ n
+  unfolding graphEvents isPassed
+  graph-le zero = omega arith
+  graph-le (suc n) =
+      by-check (lineAfter haltRule tr (suc n))
+      (λ line e. rw (e, isPassed) (omega arith))
+      (λ number e. rw (e, isPassed) (let few = graph-le n in omega arith))
+
   -- The graph's events keep the rules.
   pub graph-kept : (n : ℕ) → (line : Line) × (lineAfter haltRule tr (graphEvents haltRule tr n) ≡ passes line)
   unfolding graphEvents lineAfter isPassed
@@ -120,6 +130,19 @@ module _ (haltRule : Line → ℕ) (tr : Trace) where
   graph-broken p (suc n) number line h e f =
       rw (fails-later (suc p) (suc n) number h f, isPassed)
       (either (last-or-below p n h) (λ q. rw (← q) (graph-all p line e)) (λ l. graph-broken p n number line l e f))
+
+  -- ---- the locations
+
+  -- An access that keeps the rules is to a location below 1,024.
+  pub located : (n : ℕ) (line : Line) → lineAfter haltRule tr n ≡ passes line
+      → (p : ℕ) → p < n → isAccess (tr .kind p) ≡ true → tr .operand p < LOCATIONS
+  unfolding step stepByKind
+  located n line e p h access =
+      let before = passes-earlier p n line (omega arith) e in
+      let after = passes-earlier (suc p) n line (omega arith) e in
+      let five = row-passes 5 _ _ _ (sym (line-more p (before .0) (before .1)) ∙ after .1) in
+      let seven = row-passes 7 _ _ _ (row-passes 6 _ _ _ (five .1) .1) in
+      leb-false LOCATIONS (tr .operand p) (row-passes 8 _ _ _ (rw access at (seven .1)) .0)
 
 -- ---- the first event that breaks a rule
 

@@ -444,10 +444,6 @@ positions-snoc n = countUp-snoc 0 n ∙ ap {B = List ℕ} (λ (z : ℕ). positio
 select-snoc : (test : ℕ → Bool) (n : ℕ) → select test (positions (suc n)) ≡ select test (positions n) ++ select test (n ∷ [])
 select-snoc test n = ap (select test) (positions-snoc n) ∙ select-append test (positions n) (n ∷ [])
 
-pub select-positions-passed :
-    (test : ℕ → Bool) (n : ℕ) → test n ≡ true → select test (positions (suc n)) ≡ select test (positions n) ++ (n ∷ [])
-select-positions-passed test n h = select-snoc test n ∙ rw h
-
 pub select-positions-failed :
     (test : ℕ → Bool) (n : ℕ) → test n ≡ false → select test (positions (suc n)) ≡ select test (positions n)
 select-positions-failed test n h = select-snoc test n ∙ rw h (append-nil (select test (positions n)))

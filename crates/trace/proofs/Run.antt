@@ -2,7 +2,7 @@
 -- keeps the line as two stacks: `left`, the tasks that have halted and are not joined yet, nearest to the running task first, and `active`, the running
 -- task, its paused parent and so on to task 0. That this is the line of `specs/Line` is proved in `TwoStacks`. Assumes nothing.
 use Prim.Native.Nat.{ℕ, suc, _+_, _<_, _≤_}
-use mathlib.Core.Path.{_≡_, refl, sym, ap, subst, _∙_}
+use mathlib.Core.Path.{_≡_, refl, sym, ap, _∙_}
 use mathlib.Core.Bool.{true}
 use mathlib.Core.List.{List, [], _∷_, reverseAux}
 use mathlib.Core.Logic.{_⊎_, inl, inr, _≢_}
@@ -10,15 +10,15 @@ use native.Mathlib.Omega.{arith}
 use lib.ListN.{length}
 use Rattle.trace.specs.Trace.{Trace, FORK, JOIN, HALT, isAccess, LOCATIONS, TASKS}
 use Rattle.trace.specs.Line.{Line}
-use Rattle.trace.proofs.Tests.{either, same-or-not, last-or-below}
-use Rattle.trace.proofs.EventKinds.{access-not-fork}
-use Rattle.trace.proofs.Stacks.{In, in-eq, in-cons, Distinct, distinct-length, updated, rename, rename-same, rename-other}
+use Rattle.trace.proofs.Tests.{either, last-or-below}
+use Rattle.trace.proofs.EventKinds.{access-not-fork, access-not-join, access-not-halt}
+use Rattle.trace.proofs.Stacks.{In, in-eq, in-cons, Distinct, distinct-length, updated}
 
 -- The line that two stacks make: left turned round, then active.
 abbrev pub lineOf : List ℕ → List ℕ → List ℕ → Line
 lineOf left active used = record { tasks = reverseAux left active; active = active; used = used }
 
--- ---- what holds of the stacks, the numbers used and the groups
+-- ---- what holds of the stacks and the numbers used
 
 -- The task y is in the line.
 abbrev pub InLine : List ℕ → List ℕ → ℕ → Type 0
@@ -35,12 +35,6 @@ abbrev pub EndsInZero : List ℕ → Type 0
 EndsInZero [] = Unit {0}
 EndsInZero (y ∷ []) = y ≡ 0
 EndsInZero (y ∷ (z ∷ l)) = EndsInZero (z ∷ l)
-
--- The groups: a task in the line, and one not used yet, is its own; the group of every used task is a task in the line.
-pub record Groups (left active used : List ℕ) (group : ℕ → ℕ) : Type 0 where
-  pub own : (y : ℕ) → InLine left active y → group y ≡ y
-  pub unused : (y : ℕ) → (In y used → ⊥) → group y ≡ y
-  pub in-line : (y : ℕ) → In y used → InLine left active (group y)
 
 -- The numbers used by the first n events.
 pub record UsedNumbers (tr : Trace) (n : ℕ) (left active used : List ℕ) : Type 0 where
@@ -61,22 +55,9 @@ zero-in : (y : ℕ) (l : List ℕ) → EndsInZero (y ∷ l) → In 0 (y ∷ l)
 zero-in y [] e = inl (sym e)
 zero-in y (z ∷ l) e = inr (zero-in z l e)
 
-in-line-eq : {a b : ℕ} (left active : List ℕ) → a ≡ b → InLine left active b → InLine left active a
-in-line-eq left active e i = subst (λ (z : ℕ). InLine left active z) (sym e) i
-
 -- A halt keeps the running task x in the line.
 pub halted-in-line : (x : ℕ) (left paused : List ℕ) (y : ℕ) → InLine (x ∷ left) paused y → InLine left (x ∷ paused) y
 halted-in-line x left paused y i = either i (λ j. inl (inr j)) (λ j. either j (λ e. inl (inl e)) (λ l. inr l))
-
--- The groups of the line with v joined into x.
-joined-in-line : (v x : ℕ) (left paused : List ℕ) (y : ℕ) → InLine (v ∷ left) (x ∷ paused) y → InLine left (x ∷ paused) (rename v x y)
-joined-in-line v x left paused y i =
-    either (same-or-not y v)
-    (λ e. inl (inl (rename-same v x y e)))
-    (λ e. in-line-eq left (x ∷ paused) (rename-other v x y e) (either i (λ j. inl j) (λ j. either j (λ q. absurd (e q)) (λ l. inr l))))
-
-rename-own : (v x y z : ℕ) → z ≡ y → y ≢ v → rename v x z ≡ y
-rename-own v x y z e h = rename-other v x z (λ q. h (sym e ∙ q)) ∙ e
 
 -- A joined task is out of the line.
 pub joined-gone : (v : ℕ) (left active : List ℕ) → DistinctStacks (v ∷ left) active → (y : ℕ) → InLine left active y → y ≢ v
@@ -115,37 +96,44 @@ module _ {tr : Trace} where
 -- ---- the run
 
 module _ (haltRule : Line → ℕ) (tr : Trace) where
-  -- Run n left active used group last: the first n events keep the rules; then these are the two stacks, the numbers used, each task's group (the task
-  -- of the line that it was joined into, directly or by way of others, and itself at first), and one more than the position of each task's last event
-  -- or, where it has none, of its fork (0: neither).
-  pub data Run : ℕ → List ℕ → List ℕ → List ℕ → (ℕ → ℕ) → (ℕ → ℕ) → Type 0 where
-    start : Run 0 [] (0 ∷ []) (0 ∷ []) (λ t. t) (λ t. 0)
-    access : {n : ℕ} {left paused used : List ℕ} {group last : ℕ → ℕ} →
-        Run n left (tr .task n ∷ paused) used group last →
+  -- Run n left active used last: the first n events keep the rules; then these are the two stacks, the numbers used, and one more than the position of
+  -- each task's last event or, where it has none, of its fork (0: neither).
+  pub data Run : ℕ → List ℕ → List ℕ → List ℕ → (ℕ → ℕ) → Type 0 where
+    start : Run 0 [] (0 ∷ []) (0 ∷ []) (λ t. 0)
+    access : {n : ℕ} {left paused used : List ℕ} {last : ℕ → ℕ} →
+        Run n left (tr .task n ∷ paused) used last →
         isAccess (tr .kind n) ≡ true →
         tr .operand n < LOCATIONS →
-        Run (suc n) left (tr .task n ∷ paused) used group (updated last (tr .task n) (suc n))
-    fork : {n : ℕ} {left paused used : List ℕ} {group last : ℕ → ℕ} →
-        Run n left (tr .task n ∷ paused) used group last →
+        Run (suc n) left (tr .task n ∷ paused) used (updated last (tr .task n) (suc n))
+    fork : {n : ℕ} {left paused used : List ℕ} {last : ℕ → ℕ} →
+        Run n left (tr .task n ∷ paused) used last →
         tr .kind n ≡ FORK →
         tr .operand n < TASKS →
         (In (tr .operand n) used → ⊥) →
-        Run (suc n) left (tr .operand n ∷ (tr .task n ∷ paused)) (tr .operand n ∷ used) group
+        Run (suc n) left (tr .operand n ∷ (tr .task n ∷ paused)) (tr .operand n ∷ used)
         (updated (updated last (tr .task n) (suc n)) (tr .operand n) (suc n))
-    join : {n : ℕ} {left paused used : List ℕ} {group last : ℕ → ℕ} →
-        Run n (tr .operand n ∷ left) (tr .task n ∷ paused) used group last →
+    join : {n : ℕ} {left paused used : List ℕ} {last : ℕ → ℕ} →
+        Run n (tr .operand n ∷ left) (tr .task n ∷ paused) used last →
         tr .kind n ≡ JOIN →
-        Run (suc n) left (tr .task n ∷ paused) used (λ t. rename (tr .operand n) (tr .task n) (group t)) (updated last (tr .task n) (suc n))
-    halt : {n : ℕ} {left paused used : List ℕ} {group last : ℕ → ℕ} →
-        Run n left (tr .task n ∷ paused) used group last →
+        Run (suc n) left (tr .task n ∷ paused) used (updated last (tr .task n) (suc n))
+    halt : {n : ℕ} {left paused used : List ℕ} {last : ℕ → ℕ} →
+        Run n left (tr .task n ∷ paused) used last →
         tr .kind n ≡ HALT →
         tr .operand n ≡ haltRule (lineOf left (tr .task n ∷ paused) used) →
-        Run (suc n) (tr .task n ∷ left) paused used group (updated last (tr .task n) (suc n))
+        Run (suc n) (tr .task n ∷ left) paused used (updated last (tr .task n) (suc n))
+
+  -- After an access its task runs on.
+  pub access-runs-on : {n : ℕ} {left active used : List ℕ} {last : ℕ → ℕ} → Run (suc n) left active used last → isAccess (tr .kind n) ≡ true →
+      (paused : List ℕ) × (active ≡ tr .task n ∷ paused)
+  access-runs-on (access {paused = paused} run a o) k = (paused, refl)
+  access-runs-on (fork {n = n} run f o new) k = absurd (access-not-fork (tr .kind n) k f)
+  access-runs-on (join {n = n} run j) k = absurd (access-not-join (tr .kind n) k j)
+  access-runs-on (halt {n = n} run h o) k = absurd (access-not-halt (tr .kind n) k h)
 
   -- ---- the numbers used
 
   -- The facts on the numbers used hold at every moment of a run;
-  pub used-numbers : {n : ℕ} {left active used : List ℕ} {group last : ℕ → ℕ} → Run n left active used group last → UsedNumbers tr n left active used
+  pub used-numbers : {n : ℕ} {left active used : List ℕ} {last : ℕ → ℕ} → Run n left active used last → UsedNumbers tr n left active used
   used-numbers start =
       record {
         of-active = λ y i. i;
@@ -176,24 +164,17 @@ module _ (haltRule : Line → ℕ) (tr : Trace) where
       used-next (used-numbers run) (λ f. omega arith) (halted-in-line (tr .task n) left paused) (omega arith)
 
   -- The two stacks together hold at most 1,024 tasks.
-  pub stacks-length : {n : ℕ} {left active used : List ℕ} {group last : ℕ → ℕ} → Run n left active used group last →
+  pub stacks-length : {n : ℕ} {left active used : List ℕ} {last : ℕ → ℕ} → Run n left active used last →
       length active + length left ≤ TASKS
   stacks-length {used = used} run =
       let u = used-numbers run in
       let fit = u .stacks-fit in
       omega (arith, distinct-length TASKS used (u .distinct) (u .small))
 
-  -- A task in the line has a number that a task can have.
-  pub in-line-small : {n : ℕ} {left active used : List ℕ} {group last : ℕ → ℕ} → Run n left active used group last → (y : ℕ) →
-      InLine left active y → y < TASKS
-  in-line-small run y i =
-      let u = used-numbers run in
-      u .small y (either i (u .of-active y) (u .of-left y))
-
   -- ---- the stacks
 
   -- no task is ever twice in the line;
-  pub distinct-stacks : {n : ℕ} {left active used : List ℕ} {group last : ℕ → ℕ} → Run n left active used group last → DistinctStacks left active
+  pub distinct-stacks : {n : ℕ} {left active used : List ℕ} {last : ℕ → ℕ} → Run n left active used last → DistinctStacks left active
   distinct-stacks start = record { of-active = (λ i. i, tt); of-left = tt; disjoint = λ y i j. i }
   distinct-stacks (access run k o) = distinct-stacks run
   distinct-stacks (fork {n = n} {left = left} run k o new) =
@@ -218,7 +199,7 @@ module _ (haltRule : Line → ℕ) (tr : Trace) where
   -- ---- task 0 stays until the run is over
 
   -- Where a task is active, the lowest is task 0.
-  pub ends-in-zero : {n : ℕ} {left active used : List ℕ} {group last : ℕ → ℕ} → Run n left active used group last → EndsInZero active
+  pub ends-in-zero : {n : ℕ} {left active used : List ℕ} {last : ℕ → ℕ} → Run n left active used last → EndsInZero active
   ends-in-zero start = refl
   ends-in-zero (access run k o) = ends-in-zero run
   ends-in-zero (fork run k o new) = ends-in-zero run
@@ -226,48 +207,5 @@ module _ (haltRule : Line → ℕ) (tr : Trace) where
   ends-in-zero (halt {n = n} {paused = paused} run k o) = tail-ends (tr .task n) paused (ends-in-zero run)
 
   -- While a task runs, task 0 is active.
-  pub zero-active : {n x : ℕ} {left paused used : List ℕ} {group last : ℕ → ℕ} → Run n left (x ∷ paused) used group last → In 0 (x ∷ paused)
+  pub zero-active : {n x : ℕ} {left paused used : List ℕ} {last : ℕ → ℕ} → Run n left (x ∷ paused) used last → In 0 (x ∷ paused)
   zero-active {x = x} {paused = paused} run = zero-in x paused (ends-in-zero run)
-
-  -- ---- groups
-
-  -- and the groups are those of tasks in the line.
-  pub groups : {n : ℕ} {left active used : List ℕ} {group last : ℕ → ℕ} → Run n left active used group last → Groups left active used group
-  groups start = record { own = λ y i. refl; unused = λ y i. refl; in-line = λ y i. inl i }
-  groups (access run k o) = groups run
-  groups (fork {n = n} {left = left} {paused = paused} {used = used} run k o new) =
-      let g = groups run in
-      let fresh : (y : ℕ) → y ≡ tr .operand n → In y used → ⊥ = λ y e i. new (in-eq used (sym e) i) in
-      record {
-        own = λ y i. either i (λ j. either j (λ e. g .unused y (fresh y e)) (λ l. g .own y (inl l))) (λ j. g .own y (inr j));
-        unused = λ y i. g .unused y (λ j. i (inr j));
-        in-line = λ y i. either i (λ e. inl (inl (g .unused y (fresh y e) ∙ e))) (λ j. either (g .in-line y j) (λ l. inl (inr l)) (λ l. inr l));
-      }
-  groups (join {n = n} {left = left} {paused = paused} {group = group} run k) =
-      let g = groups run in
-      let d = distinct-stacks run in
-      let u = used-numbers run in
-      let v = tr .operand n in
-      let x = tr .task n in
-      record {
-        own = λ y i. rename-own v x y (group y) (g .own y (either i (λ j. inl j) (λ j. inr (inr j)))) (joined-gone v left (x ∷ paused) d y i);
-        unused = λ y i. rename-own v x y (group y) (g .unused y i) (λ e. i (u .of-left y (inl e)));
-        in-line = λ y i. joined-in-line v x left paused (group y) (g .in-line y i);
-      }
-  groups (halt {n = n} {left = left} {paused = paused} run k o) =
-      let g = groups run in
-      record {
-        own = λ y i. g .own y (halted-in-line (tr .task n) left paused y i);
-        unused = g .unused;
-        in-line = λ y i. either (g .in-line y i) (λ j. either j (λ e. inr (inl e)) (λ l. inl l)) (λ j. inr (inr j));
-      }
-
-  -- Every event's task has a group that is in the line.
-  pub event-in-line : {n : ℕ} {left active used : List ℕ} {group last : ℕ → ℕ} → Run n left active used group last → (p : ℕ) → p < n →
-      InLine left active (group (tr .task p))
-  event-in-line run p h = groups run .in-line (tr .task p) (used-numbers run .of-task p h)
-
-  -- An event of the running task is of the running task's group.
-  pub running-own : {n : ℕ} {left paused used : List ℕ} {group last : ℕ → ℕ} → Run n left (tr .task n ∷ paused) used group last → (p : ℕ) → p ≡ n →
-      group (tr .task p) ≡ tr .task n
-  running-own {n = n} {group = group} run p e = ap (λ (z : ℕ). group (tr .task z)) e ∙ groups run .own (tr .task n) (inl (inl refl))

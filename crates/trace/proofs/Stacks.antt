@@ -82,15 +82,3 @@ updated-same f u v t e = rw (eq-eqb t u e)
 pub updated-other : (f : ℕ → ℕ) (u v t : ℕ) → t ≢ u → updated f u v t ≡ f t
 unfolding updated
 updated-other f u v t h = rw (ne-eqb t u h)
-
--- y, but x where it is v.
-unfoldable pub rename : ℕ → ℕ → ℕ → ℕ
-rename v x y = cond (eqb y v) x y
-
-pub rename-same : (v x y : ℕ) → y ≡ v → rename v x y ≡ x
-unfolding rename
-rename-same v x y e = rw (eq-eqb y v e)
-
-pub rename-other : (v x y : ℕ) → y ≢ v → rename v x y ≡ y
-unfolding rename
-rename-other v x y h = rw (ne-eqb y v h)

@@ -24,7 +24,7 @@ test-empty [] = (λ e. refl, λ e. refl)
 test-empty (y ∷ l) = (λ e. absurd (false≢true e), λ e. ap isEmpty e)
 
 module _ (haltRule : Line → ℕ) (tr : Trace) where
-  halted-empty : {n : ℕ} {left used : List ℕ} {group last : ℕ → ℕ} (active : List ℕ) → Run haltRule tr n left active used group last → ZeroHalted tr n
+  halted-empty : {n : ℕ} {left used : List ℕ} {last : ℕ → ℕ} (active : List ℕ) → Run haltRule tr n left active used last → ZeroHalted tr n
       → active ≡ []
   halted-empty [] run w = refl
   halted-empty (x ∷ paused) run w =
@@ -34,7 +34,7 @@ module _ (haltRule : Line → ℕ) (tr : Trace) where
   HaltedIfEmpty n [] = ZeroHalted tr n
   HaltedIfEmpty n (x ∷ l) = Unit {0}
 
-  empty-halted : {n : ℕ} {left active used : List ℕ} {group last : ℕ → ℕ} → Run haltRule tr n left active used group last → HaltedIfEmpty n active
+  empty-halted : {n : ℕ} {left active used : List ℕ} {last : ℕ → ℕ} → Run haltRule tr n left active used last → HaltedIfEmpty n active
   empty-halted start = tt
   empty-halted (access run k o) = tt
   empty-halted (fork run k o new) = tt
@@ -46,7 +46,7 @@ module _ (haltRule : Line → ℕ) (tr : Trace) where
       ends (y ∷ l) e = tt
 
   -- No task of a run is active exactly if task 0 has halted.
-  pub active-empty-iff : {n : ℕ} {left active used : List ℕ} {group last : ℕ → ℕ} → Run haltRule tr n left active used group last
+  pub active-empty-iff : {n : ℕ} {left active used : List ℕ} {last : ℕ → ℕ} → Run haltRule tr n left active used last
       → (active ≡ []) ↔ ZeroHalted tr n
   active-empty-iff {n = n} {active = active} run =
       (λ e. let w : HaltedIfEmpty n [] = rw e at (empty-halted run) in w, halted-empty active run)

@@ -142,7 +142,7 @@ module _ (tr : Trace) where
 
 module _ (haltRule : Line → ℕ) (tr : Trace) where
   -- At every moment of a run `last` names the tips,
-  pub tips : {n : ℕ} {left active used : List ℕ} {group last : ℕ → ℕ} → Run haltRule tr n left active used group last → Tips tr n last
+  pub tips : {n : ℕ} {left active used : List ℕ} {last : ℕ → ℕ} → Run haltRule tr n left active used last → Tips tr n last
   tips start = record { sound = λ u m e. absurd (omega arith); complete = λ u m c. let h = c .0 in absurd (omega arith) }
   tips (access {n = n} {last = last} run k o) = tips-own tr n last (tips run) (access-not-fork (tr .kind n) k)
   tips (fork {n = n} {last = last} run k o new) = tips-fork tr last (used-numbers haltRule tr run) new k (tips run)
@@ -150,7 +150,7 @@ module _ (haltRule : Line → ℕ) (tr : Trace) where
   tips (halt {n = n} {last = last} run k o) = tips-own tr n last (tips run) (λ f. omega arith)
 
   -- and the tips of the tasks in `left` are their halts.
-  pub halts : {n : ℕ} {left active used : List ℕ} {group last : ℕ → ℕ} → Run haltRule tr n left active used group last → Halts tr n left active last
+  pub halts : {n : ℕ} {left active used : List ℕ} {last : ℕ → ℕ} → Run haltRule tr n left active used last → Halts tr n left active last
   halts start = record { by-halt = λ u i. absurd i; is-tip = λ m h. absurd (omega arith); not-active = λ m h. absurd (omega arith) }
   halts (access {n = n} {left = left} {paused = paused} {last = last} run k o) =
       let H = halts run in
@@ -204,7 +204,7 @@ abbrev pub ReachesTip : Trace → ℕ → ℕ → ℕ → Type 0
 ReachesTip tr graph p value = (m : ℕ) × (value ≡ suc m) × Reach tr graph p m
 
 module _ (haltRule : Line → ℕ) (tr : Trace) (graph : ℕ) (forward : Forward tr graph) where
-  module _ {n : ℕ} {left active used : List ℕ} {group last : ℕ → ℕ} (run : Run haltRule tr n left active used group last) (inside : n < graph) where
+  module _ {n : ℕ} {left active used : List ℕ} {last : ℕ → ℕ} (run : Run haltRule tr n left active used last) (inside : n < graph) where
     -- An arc from the tip of the event's own task,
     arc-own : (m : ℕ) → last (tr .task n) ≡ suc m → Arc tr graph m n
     arc-own m e =

@@ -155,9 +155,8 @@ module _ (haltRule : Line → ℕ) (tr : Trace) where
     pub left : List ℕ
     pub active : List ℕ
     pub used : List ℕ
-    pub group : ℕ → ℕ
     pub last : ℕ → ℕ
-    pub run : Run haltRule tr n left active used group last
+    pub run : Run haltRule tr n left active used last
     pub line-is : line ≡ lineOf left active used
 
   -- Where the rules are kept, a run leaves the line.
@@ -170,12 +169,12 @@ module _ (haltRule : Line → ℕ) (tr : Trace) where
   kept-row n number true next f = tt
   kept-row n number false next f = f refl
 
-  run-to : {n : ℕ} {left active used : List ℕ} {group last : ℕ → ℕ} (line : Line) → line ≡ lineOf left active used →
-      Run haltRule tr n left active used group last → RunTo n line
-  run-to {left = left} {active = active} {used = used} {group = group} {last = last} line e run =
-      record { left = left; active = active; used = used; group = group; last = last; run = run; line-is = e }
+  run-to : {n : ℕ} {left active used : List ℕ} {last : ℕ → ℕ} (line : Line) → line ≡ lineOf left active used →
+      Run haltRule tr n left active used last → RunTo n line
+  run-to {left = left} {active = active} {used = used} {last = last} line e run =
+      record { left = left; active = active; used = used; last = last; run = run; line-is = e }
 
-  module _ {n : ℕ} {left paused used : List ℕ} {group last : ℕ → ℕ} (run : Run haltRule tr n left (tr .task n ∷ paused) used group last) where
+  module _ {n : ℕ} {left paused used : List ℕ} {last : ℕ → ℕ} (run : Run haltRule tr n left (tr .task n ∷ paused) used last) where
     kept-access : isAccess (tr .kind n) ≡ true →
         KeptBy (suc n) (row 8 (leb LOCATIONS (tr .operand n)) (passes (lineOf left (tr .task n ∷ paused) used)))
     kept-access k =
@@ -201,7 +200,7 @@ module _ (haltRule : Line → ℕ) (tr : Trace) where
         kept-row (suc n) 11 _ _ (λ e.
         let is-left = not-false (isLeftOf a (tr .task n) (reverseAux left (tr .task n ∷ paused))) e in
         let top = head-is a left (sym (left-is-head a (tr .task n) left paused (distinct-stacks haltRule tr run)) ∙ is-left) in
-        let run′ = subst (λ (l : List ℕ). Run haltRule tr n l (tr .task n ∷ paused) used group last) (top .1) run in
+        let run′ = subst (λ (l : List ℕ). Run haltRule tr n l (tr .task n ∷ paused) used last) (top .1) run in
         run-to _
         (ap (λ (l : List ℕ). joined a (lineOf l (tr .task n ∷ paused) used)) (top .1)
         ∙ joined-line a (top .0) (tr .task n ∷ paused) used (distinct-stacks haltRule tr run′))
@@ -226,14 +225,14 @@ module _ (haltRule : Line → ℕ) (tr : Trace) where
         (by-test (eqb (tr .kind n) JOIN) (λ j. rw j (kept-join (eqb-true (tr .kind n) JOIN j))) (λ j. rw j
         (kept-halt (rest-is-halt (tr .kind n) named e f j)))))))
 
-  kept-step : {n : ℕ} {left active used : List ℕ} {group last : ℕ → ℕ} → Run haltRule tr n left active used group last →
+  kept-step : {n : ℕ} {left active used : List ℕ} {last : ℕ → ℕ} → Run haltRule tr n left active used last →
       KeptBy (suc n) (step haltRule tr n (lineOf left active used))
   unfolding step
-  kept-step {n = n} {left = left} {active = active} {used = used} {group = group} {last = last} run =
+  kept-step {n = n} {left = left} {active = active} {used = used} {last = last} run =
       kept-row (suc n) 5 _ _ (λ named. kept-row (suc n) 6 _ _ (λ e. kept-row (suc n) 7 _ _ (λ runs.
       let top = head-is (tr .task n) active (not-false (isHead (tr .task n) active) runs) in
       rw (top .1)
-      (kept-by-kind (subst (λ (l : List ℕ). Run haltRule tr n left l used group last) (top .1) run) (not-false (isKind (tr .kind n)) named)))))
+      (kept-by-kind (subst (λ (l : List ℕ). Run haltRule tr n left l used last) (top .1) run) (not-false (isKind (tr .kind n)) named)))))
 
   kept-after : (n : ℕ) (before : Checked Line) → KeptBy n before → KeptBy (suc n) (stepAfter haltRule tr n before)
   unfolding stepAfter
@@ -250,7 +249,7 @@ module _ (haltRule : Line → ℕ) (tr : Trace) where
   run-of n line e = let r : KeptBy n (passes line) = subst (λ (c : Checked Line). KeptBy n c) e (kept n) in r
 
   -- and where there is a run of n events they keep the rules, and the line is its two stacks.
-  pub line-of : {n : ℕ} {left active used : List ℕ} {group last : ℕ → ℕ} → Run haltRule tr n left active used group last →
+  pub line-of : {n : ℕ} {left active used : List ℕ} {last : ℕ → ℕ} → Run haltRule tr n left active used last →
       lineAfter haltRule tr n ≡ passes (lineOf left active used)
   unfolding lineAfter startLine
   line-of start = refl

@@ -25,7 +25,7 @@ sub-active c =
     let moved = c .before .before in
     let start = moved .before .before in
     let halts = c .before .if3 .taken in
-    let same = halt-active (start .args .line) (start .args .kind) (moved .before .if1 .active) (moved .if2 .left) (forks (moved .before)) (joins moved) halts in
+    let same = halt-active (start .args .line) _ _ _ (forks (moved .before)) (joins moved) halts in
     let some = start .pre .halts halts in
     omega arith
 
@@ -34,22 +34,19 @@ add-left c =
     let moved = c .before .before .before in
     let start = moved .before .before in
     let halts = c .before .before .if3 .taken in
-    let same = halt-left (start .args .line) (start .args .kind) (moved .before .if1 .active) (moved .if2 .left) (forks (moved .before)) (joins moved) halts in
+    let same = halt-left (start .args .line) _ _ _ (forks (moved .before)) (joins moved) halts in
     let few = start .pre .few-left in
     search needs
 
 returns : tie.Need-returns
 returns c =
     let moved = c .before .before .before in
-    let start = moved .before .before in
-    after-halt (start .args .line) (start .args .kind) (moved .before .if1 .active) (moved .if2 .left) (forks (moved .before)) (joins moved)
-    (c .before .before .if3 .taken)
+    after-halt (moved .before .before .args .line) _ _ _ (forks (moved .before)) (joins moved) (c .before .before .if3 .taken)
 
 returns-2 : tie.Need-returns-2
 returns-2 c =
     let moved = c .before in
-    let start = moved .before .before in
-    after-other (start .args .line) (start .args .kind) (moved .before .if1 .active) (moved .if2 .left) (forks (moved .before)) (joins moved) (c .if3 .left)
+    after-other (moved .before .before .args .line) _ _ _ (forks (moved .before)) (joins moved) (c .if3 .left)
 
 pub after-spec : {M : Type 1} → statement M
 after-spec =

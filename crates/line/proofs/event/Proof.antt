@@ -5,7 +5,7 @@ use native.Mathlib.Omega.{arith}
 use borrow.Author.Needs.{needs}
 use Rattle.trace.specs.Trace.{isKind}
 use Rattle.trace.proofs.Tests.{either}
-use Rattle.line.specs.Steps.{eventIn}
+use Rattle.line.specs.Steps.{taskIn, eventIn}
 use Rattle.line.proofs.Rows.{rows, kind-unknown, kind-known, act-found}
 use Rattle.line.proofs.event.Statement.{statement}
 use Rattle.line.proofs.event.Tie as tie
@@ -19,7 +19,7 @@ known c =
     (λ w. either w (λ z. omega arith) (λ v. either v (λ z. omega arith) (λ z. omega arith))))
 
 pub event-spec : {M : Type 1} → statement M
-unfolding eventIn
+unfolding eventIn taskIn
 event-spec =
     tie.close
     (tie.spec

@@ -1,9 +1,8 @@
 -- `line::halt` meets its contract: at most 1,024 tasks are left of the running one, so the cell for one more is there. Assumes nothing.
 use native.Mathlib.Omega.{arith}
 use borrow.Author.Needs.{needs}
-use lib.ListN.{length-set}
 use Rattle.line.specs.Cells.{haltedIn}
-use Rattle.line.proofs.Bounds.{depths-fit, running-small}
+use Rattle.line.proofs.Bounds.{depths-fit}
 use Rattle.line.proofs.halt.Statement.{statement}
 use Rattle.line.proofs.halt.Tie as tie
 
@@ -13,10 +12,8 @@ halt-spec =
     tie.close
     (tie.spec
     (λ c κs. search needs)
-    (λ c κs. search (needs, running-small))
-    (λ c. omega (arith, depths-fit (c .before .before .before .before .before .before .pre .0)))
-    (λ c. omega (arith, depths-fit (c .before .before .before .before .before .before .pre .0)))
-    (λ c. omega (arith, depths-fit (c .before .before .before .before .before .before .pre .0)))
-    (λ c κs. simp length-set (omega (arith, depths-fit (c .before .before .before .before .before .before .before .pre .0))))
-    (λ c. simp length-set at (c .before .before .put .kept .0))
+    (λ c. omega (arith, depths-fit (c .before .before .before .before .pre .0)))
+    (λ c. omega (arith, depths-fit (c .before .before .before .before .pre .0)))
+    (λ c. omega (arith, depths-fit (c .before .before .before .before .pre .0)))
+    (λ c. search needs)
     (λ c. cc))

@@ -7,13 +7,4 @@ use Rattle.line.proofs.join_row.Tie as tie
 
 pub join-row-spec : {M : Type 1} → statement M
 unfolding joinIn
-join-row-spec =
-    tie.close
-    (tie.spec
-    (λ c. search rows)
-    (λ c κs. search needs)
-    (λ c. search needs)
-    (λ c. search rows)
-    (λ c κs. search needs)
-    (λ c. search needs)
-    (λ c. search rows))
+join-row-spec = tie.close (tie.spec (λ c. search rows) (λ c κs. search needs) (λ c. search rows) (λ c. search rows))

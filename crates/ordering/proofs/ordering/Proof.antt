@@ -1,25 +1,28 @@
 -- `ordering::ordering` meets its contract. Assumes nothing.
-use native.Mathlib.Omega.{arith}
+use mathlib.Core.Path.{refl}
 use borrow.Author.Needs.{needs}
-use denote.Ref.{now}
-use Rattle.line.proofs.Rests.{sized-same}
-use Rattle.rules.proofs.Walking.{start-beyond, start-at}
-use Rattle.ordering.proofs.OrderingAnswer.{says-after}
+use Rattle.sizes.proofs.Sizing.{sizes-lent}
+use Rattle.ordering.proofs.Asking.{promised-sizes, promised-asked}
 use Rattle.ordering.proofs.ordering.Statement.{statement}
 use Rattle.ordering.proofs.ordering.Tie as tie
 
-ordering-all-requires : tie.Need-ordering-all-requires
-ordering-all-requires c κs =
-    let entry = c .before .before .before .before .before .before .before .before .before in
-    let started = c .before .before .before .start .ensures in
-    let long = start-beyond (now (entry .args .ws)) (omega (arith, entry .pre .room)) (started .1) .long in
-    (sized-same (entry .pre) long, start-at (now (entry .args .ws)) (omega (arith, entry .pre .room)) (started .1) (started .0))
-
 returns : tie.Need-returns
-returns c =
-    let entry = c .before .before .before .before .before .before .before .before .before .before .before .before in
-    let started = c .before .before .before .before .before .before .start .ensures in
-    says-after (start-beyond (now (entry .args .ws)) (omega (arith, entry .pre .room)) (started .1)) (c .before .before .ordering-all .ensures)
+returns c = promised-sizes _ _ _ _ _ _ _ _ _ (c .before .before .size-row .ensures) (c .before .if1 .taken) (c .refuse .ensures) refl
+
+returns-2 : tie.Need-returns-2
+returns-2 c =
+    let asked = c .before .before in
+    let passed = asked .before .before in
+    promised-asked _ _ _ _ _ _ _ _ _ (passed .before .size-row .ensures) (passed .if1 .left) (asked .ask .ensures)
 
 pub ordering-spec : {M : Type 1} → statement M
-ordering-spec = tie.close (tie.spec (λ c κs. search needs) ordering-all-requires (λ c. search needs) returns)
+ordering-spec =
+    tie.close
+    (tie.spec
+    (λ c κs. search needs)
+    (λ c κs. search needs)
+    (λ c. search needs)
+    returns
+    (λ c κs. search sizes-lent)
+    (λ c. search needs)
+    returns-2)

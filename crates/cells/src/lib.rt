@@ -1,0 +1,44 @@
+// Cells of the one workspace that callers lend: twelve tables of 1,024 cells, then one cell for each event. Table k starts at cell k * 1,024.
+ghost use mathlib.Core.Path.{_≡_};
+ghost use Prim.Native.Nat.{_+_, _≤_, _<_};
+ghost use lib.ListN.{length, getD, set};
+ghost use Rattle.cells.specs.Cells.{zeroed, NUMBER, numberIn};
+
+// The cell of event 0, past the tables. From here on each event's number stands, once the events have numbers.
+pub const NUMBER: usize = 12288;
+
+// Sets the first n cells to 0: callers lend cells with any content, and get them back cleared.
+pub fn clear(ws: &mut [u16], n: usize)
+    requires { ⌜ n ≤ length (now ws) ⌝ }
+    ensures { λ _. ⌜ now (ws .exit) ≡ zeroed n (now (ws .entry)) ⌝ }
+{
+    let mut i = 0;
+    while i < n {
+        ws[i] = 0;
+        i += 1;
+    }
+}
+
+// Cell i of the table that starts at base. Its callers then need no cast and no index of their own.
+pub fn cell(ws: &[u16], base: usize, i: u16) -> u16
+    requires { ⌜ base + i < length (now ws) ⌝ }
+    ensures { λ r. ⌜ r ≡ getD (now (ws .entry)) (base + i) 0 ⌝ }
+{
+    ws[base + i as usize]
+}
+
+// Stores v in cell i of the table that starts at base.
+pub fn put(ws: &mut [u16], base: usize, i: u16, v: u16)
+    requires { ⌜ base + i < length (now ws) ⌝ }
+    ensures { λ _. ⌜ now (ws .exit) ≡ set (now (ws .entry)) (base + i) v ⌝ }
+{
+    ws[base + i as usize] = v;
+}
+
+// The number of event p.
+pub fn number(ws: &[u16], p: usize) -> u16
+    requires { ⌜ NUMBER + p < length (now ws) ⌝ }
+    ensures { λ r. ⌜ r ≡ numberIn (now (ws .entry)) p ⌝ }
+{
+    ws[NUMBER + p]
+}

@@ -1,8 +1,0 @@
--- `line::is_access` meets its contract. Assumes nothing.
-use Rattle.trace.proofs.EventKinds.{test-access-number}
-use Rattle.trace.proofs.Tests.{tests-unique, test-lt}
-use Rattle.line.proofs.is_access.Statement.{statement}
-use Rattle.line.proofs.is_access.Tie as tie
-
-pub is-access-spec : {M : Type 1} → statement M
-is-access-spec = tie.close (tie.spec (λ c. tests-unique _ _ (test-lt _ _) (test-access-number _)))

@@ -1,2 +1,0 @@
--- The laws of the rules over a part of a trace.
-pub mod Walking

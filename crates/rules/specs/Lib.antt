@@ -1,2 +1,0 @@
--- What the line rules say of a part of a trace.
-pub mod Walks

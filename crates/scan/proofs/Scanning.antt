@@ -1,0 +1,163 @@
+-- The loop of `first_race`: what holds before each turn, and what it found. Assumes nothing.
+use Prim.Native.Nat.{ℕ, suc, _+_, _<_, _≤_}
+use mathlib.Core.Path.{_≡_, refl, sym, ap, subst, fun-ext, _∙_}
+use mathlib.Core.Bool.{Bool, true, false, true≢false}
+use mathlib.Core.List.{List}
+use mathlib.Core.Logic.{_↔_}
+use native.Mathlib.Omega.{arith}
+use native.Mathlib.Numerals.{add-one}
+use lib.ListN.{length, getD}
+use Rattle.trace.specs.Trace.{isAccess, WORKSPACE-CELLS}
+use Rattle.trace.proofs.Tests.{either, last-or-below}
+use Rattle.cells.specs.Cells.{zeroed, SameFrom}
+use Rattle.cells.proofs.Zeroed.{zeroed-length, zeroed-below, zeroed-beyond}
+use Rattle.segments.specs.Segments.{moves, segment}
+use Rattle.segments.proofs.SegmentFacts.{moves-rise}
+use Rattle.ranks.specs.Lists.{NEXT, SEGMENTS}
+use Rattle.ranks.specs.States.{kindsOnly, ownNumber}
+use Rattle.ranks.proofs.Ranking.{access-segment, moves-on, moves-more, leading-moves, leading-zero}
+use Rattle.scan.specs.Numbered.{Numbered, RaceByNumber, FirstRace}
+use Rattle.scan.specs.Tables.{TABLES, heldAgainst, Testable, TestSays}
+use Rattle.scan.proofs.Largest.{kept-long, kept-other, Tables, tables-none, tables-move, tables-kept, race-by-table}
+
+-- Before each turn the tables hold the largest numbers of the first t events, and none of these races with an earlier one; `current` counts the moves among
+-- them. The cells were `start` where the loop began, and the numbers still stand there.
+pub record Scanning (kinds operands : List ℕ) (from events : ℕ) (start c : List ℕ) (current t : ℕ) : Type 0 where
+  pub within : t ≤ events
+  pub counts : current ≡ moves (kindsOnly kinds) t
+  pub numbered : Numbered kinds operands start from events
+  pub beyond : SameFrom TABLES start c
+  pub tables : Tables kinds operands (ownNumber kinds start) t c
+  pub none : (p q : ℕ) → q < t → RaceByNumber kinds operands (ownNumber kinds start) p q → ⊥
+
+-- Event r is the first that races, by the numbers of `start`, and they still stand in `c`.
+abbrev Found : List ℕ → List ℕ → ℕ → List ℕ → List ℕ → ℕ → Type 0
+Found kinds operands events start c r = FirstRace kinds operands (ownNumber kinds start) events r × SameFrom TABLES start c
+
+module _ (kinds operands : List ℕ) (from events : ℕ) where
+  -- It begins with cleared tables.
+  module _ (entry start : List ℕ) (e : start ≡ zeroed TABLES entry) (lent : Numbered kinds operands entry from events) where
+    begun-beyond : SameFrom TABLES entry start
+    begun-beyond =
+        let room = lent .segments-in .room in
+        rw e (record { long = zeroed-length TABLES entry (omega arith); same = λ i h. zeroed-beyond TABLES entry i h })
+
+    begun-numbers : (p : ℕ) → ownNumber kinds start p ≡ ownNumber kinds entry p
+    begun-numbers p = begun-beyond .same (NEXT + segment (kindsOnly kinds) p) (omega arith)
+
+    pub scan-begin : Scanning kinds operands from events start start 0 from
+    scan-begin =
+        let ready = lent .segments-in in
+        let zeros : (p : ℕ) → p < from → ownNumber kinds start p ≡ 0 =
+        λ p h. begun-numbers p ∙ leading-zero kinds entry from p (ready .zero) (lent .leading) h in
+        let long = begun-beyond .long in
+        let room = ready .room in
+        record {
+          within = lent .within;
+          counts = sym (leading-moves kinds from (lent .leading));
+          numbered =
+              record {
+                of-operands = lent .of-operands;
+                segments-in =
+                    record {
+                      within = ready .within;
+                      few = ready .few;
+                      room = omega arith;
+                      zero = begun-beyond .same (NEXT + 0) (omega arith) ∙ ready .zero;
+                    };
+                locations = lent .locations;
+                within = lent .within;
+                leading = lent .leading;
+              };
+          beyond = record { long = refl; same = λ i h. refl };
+          tables = tables-none kinds operands (ownNumber kinds start) from start (λ i h. rw e (zeroed-below TABLES entry i h)) zeros;
+          none = λ p q h r. let i = r .before in let s = r .smaller in absurd (omega (arith, zeros p (omega arith)));
+        }
+
+    -- What is found is said of the cells at entry.
+    pub scan-answer : (c : List ℕ) (r : ℕ) → Found kinds operands events start c r → Found kinds operands events entry c r
+    scan-answer c r f = (
+      subst (λ (number : ℕ → ℕ). FirstRace kinds operands number events r) (fun-ext begun-numbers) (f .0),
+      record { long = f .1 .long ∙ begun-beyond .long; same = λ i h. f .1 .same i h ∙ begun-beyond .same i h },
+    )
+
+  module _ {start c : List ℕ} {current t : ℕ} (s : Scanning kinds operands from events start c current t) where
+    pub scan-end : events ≤ t → Found kinds operands events start c t
+    scan-end h = (record { within = s .within; none-before = s .none; race = λ i. absurd (omega arith) }, s .beyond)
+
+    -- The open segment has a cell.
+    pub scan-few : current < SEGMENTS
+    scan-few =
+        let e = s .counts in
+        let few = s .numbered .segments-in .few in
+        omega (arith, moves-rise (kindsOnly kinds) t events (s .within))
+
+    pub scan-room : WORKSPACE-CELLS ≤ length c
+    scan-room = let long = s .beyond .long in let room = s .numbered .segments-in .room in omega arith
+
+    module _ (inside : t < events) where
+      -- Event t races with none.
+      none-next : ((p : ℕ) → RaceByNumber kinds operands (ownNumber kinds start) p t → ⊥) →
+          (p q : ℕ) → q < suc t → RaceByNumber kinds operands (ownNumber kinds start) p q → ⊥
+      none-next at p q h r = either (last-or-below q t h) (λ e. at p (rw e at r)) (λ i. s .none p q i r)
+
+      pub scan-move : isAccess (getD kinds t 0) ≡ false → Scanning kinds operands from events start c (current + 1) (t + 1)
+      scan-move move =
+          rw (add-one current, add-one t)
+          (record {
+            within = omega arith;
+            counts = ap suc (s .counts) ∙ sym (moves-more kinds t move);
+            numbered = s .numbered;
+            beyond = s .beyond;
+            tables = tables-move kinds operands (ownNumber kinds start) t c move (s .tables);
+            none = none-next (λ p r. true≢false (sym (r .access) ∙ move));
+          })
+
+      module _ (access : isAccess (getD kinds t 0) ≡ true) where
+        abbrev k : ℕ
+        k = getD kinds t 0
+
+        abbrev l : ℕ
+        l = getD operands t 0
+
+        pub scan-testable : Testable c k l
+        scan-testable =
+            record { access = access; location = s .numbered .locations t inside access; room = let room = scan-room in omega arith }
+
+        module _ (x : ℕ) (read : x ≡ getD c (NEXT + current) 0) where
+          own : x ≡ ownNumber kinds start t
+          own =
+              read
+              ∙ (s .beyond .same (NEXT + current) (omega arith)
+              ∙ ap (λ (g : ℕ). getD start (NEXT + g) 0) (s .counts ∙ sym (access-segment kinds t access)))
+
+          told : (x < heldAgainst c k l) ↔ ((p : ℕ) × RaceByNumber kinds operands (ownNumber kinds start) p t)
+          told =
+              let f = scan-testable in
+              rw own (race-by-table kinds operands (ownNumber kinds start) t c (f .room) access (f .location) (s .tables))
+
+          pub scan-kept : (d : List ℕ) (r : Bool) → r ≡ true → TestSays c d k l x r → Scanning kinds operands from events start d current (t + 1)
+          scan-kept d false e says = absurd (true≢false (sym e))
+          scan-kept d true e says =
+              let f = scan-testable in
+              let quiet = says .0 in
+              let o = own in
+              rw (add-one t, says .1)
+              (record {
+                within = omega arith;
+                counts = s .counts ∙ sym (moves-on kinds t access);
+                numbered = s .numbered;
+                beyond =
+                    record {
+                      long = kept-long c k l x ∙ s .beyond .long;
+                      same = λ i h. kept-other c k l x i (λ q. omega arith) (λ q. omega arith) ∙ s .beyond .same i h;
+                    };
+                tables = rw o (tables-kept kinds operands (ownNumber kinds start) t c (f .room) access (f .location) (s .tables) (omega arith));
+                none = none-next (λ p r. let h = told .1 (p, r) in omega arith);
+              })
+
+          pub scan-race : (d : List ℕ) (r : Bool) → r ≡ false → TestSays c d k l x r → Found kinds operands events start d t
+          scan-race d true e says = absurd (true≢false e)
+          scan-race d false e says =
+              let lower = says .0 in
+              (record { within = s .within; none-before = s .none; race = λ h. told .0 (omega arith) }, rw (says .1) (s .beyond))

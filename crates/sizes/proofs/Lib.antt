@@ -1,0 +1,3 @@
+-- The laws of the size checks.
+pub mod Checks
+pub mod Sizing
