@@ -1,8 +1,7 @@
-//! Builds what the programs link: the hand-written C judge (always, under the names `hand_*` and,
-//! with branches kept clear of 32-byte bounds, `aligned_*`) and the judge that is measured and
-//! tested. The latter is the archive that RACEJUDGE_LIB names; without that variable the
-//! hand-written judge takes its place once more, under the exported names `racejudge_*`. Without
-//! the feature `linked` nothing is built.
+//! Builds what the programs link: the two C judges (under the names `twoorders_*` and
+//! `unionfind_*`), the floor, and the judge that is measured and tested. The latter is the archive
+//! that RACEJUDGE_LIB names; without that variable the two orders in C take its place, compiled once
+//! more under the exported names `racejudge_*`. Without the feature `linked` nothing is built.
 //!
 //! In every archive each function's section is set to start at a multiple of 64 bytes: then what
 //! else a program holds does not move the hot loops, and times repeat from build to build.
@@ -11,23 +10,28 @@ use std::env;
 use std::path::{Path, PathBuf};
 use std::process::Command;
 
-const SOURCE: &str = "src/handwritten.c";
+const TWO_ORDERS: &str = "src/twoorders.c";
+const UNION_FIND: &str = "src/unionfind.c";
+const FLOOR: &str = "src/floor.c";
 const INCLUDE: &str = "../include";
+const HEADER: &str = "../include/racejudge.h";
 
 fn main() {
     println!("cargo:rerun-if-changed=build.rs");
     if env::var_os("CARGO_FEATURE_LINKED").is_none() {
         return;
     }
-    println!("cargo:rerun-if-changed={SOURCE}");
-    println!("cargo:rerun-if-changed={INCLUDE}/racejudge.h");
+    for file in [TWO_ORDERS, UNION_FIND, FLOOR, HEADER] {
+        println!("cargo:rerun-if-changed={file}");
+    }
     println!("cargo:rerun-if-env-changed=RACEJUDGE_LIB");
     println!("cargo:rerun-if-env-changed=CC");
     let out = PathBuf::from(env::var_os("OUT_DIR").expect("cargo sets OUT_DIR"));
     println!("cargo:rustc-link-search=native={}", out.display());
 
-    compile(&out, "hand", &["-DNAME=hand"]);
-    compile(&out, "aligned", &["-DNAME=aligned", branches_within_32_bytes()]);
+    compile(&out, TWO_ORDERS, "twoorders");
+    compile(&out, UNION_FIND, "unionfind");
+    compile(&out, FLOOR, "floor");
     match env::var("RACEJUDGE_LIB") {
         Ok(path) => {
             println!("cargo:rerun-if-changed={path}");
@@ -38,20 +42,21 @@ fn main() {
             println!("cargo:rustc-env=RACEJUDGE_NAME={}", file.to_string_lossy());
         }
         Err(_) => {
-            compile(&out, "standin", &["-DNAME=racejudge"]);
-            println!("cargo:rustc-env=RACEJUDGE_NAME=stand-in, the hand-written C judge");
+            compile(&out, TWO_ORDERS, "racejudge");
+            println!("cargo:rustc-env=RACEJUDGE_NAME=stand-in, the two orders in C");
         }
     }
 }
 
-/// Compiles the C judge to OUT/libNAME.a and links it. Same back end (LLVM) and same target (plain
-/// x86-64) as the static library where clang is there; the system's C compiler otherwise.
-fn compile(out: &Path, name: &str, words: &[&str]) {
+/// Compiles a C source to OUT/libNAME.a, a judge's calls under that name, and links it. Same back
+/// end (LLVM) and same target (plain x86-64) as the static library where clang is there; the
+/// system's C compiler otherwise.
+fn compile(out: &Path, source: &str, name: &str) {
     let object = out.join(format!("{name}.o"));
     run(Command::new(compiler())
         .args(["-O3", "-std=c11", "-Wall", "-Wextra", "-Werror", "-fPIC", "-ffunction-sections"])
-        .args(words)
-        .args(["-I", INCLUDE, "-c", SOURCE, "-o"])
+        .arg(format!("-DNAME={name}"))
+        .args(["-I", INCLUDE, "-c", source, "-o"])
         .arg(&object));
     // A new archive each time: its members are set as `link` has them, not added to.
     let library = out.join(format!("lib{name}.a"));
@@ -73,14 +78,6 @@ fn compiler() -> String {
     let present = |name: &&str| Command::new(name).arg("--version").output().is_ok();
     let found = || ["clang", "cc"].into_iter().find(present).expect("a C compiler");
     env::var("CC").unwrap_or_else(|_| found().to_string())
-}
-
-/// clang's word, and that of GNU's assembler.
-fn branches_within_32_bytes() -> &'static str {
-    if compiler().contains("clang") {
-        return "-mbranches-within-32B-boundaries";
-    }
-    "-Wa,-mbranches-within-32B-boundaries"
 }
 
 fn run(command: &mut Command) {

@@ -6,7 +6,7 @@ use crate::trace::*;
 pub struct Extent {
     pub events: usize,
     pub tasks: usize,
-    /// The longest chain that an access has a search climb.
+    /// The longest chain that an access has a search of union-find climb.
     pub links: usize,
 }
 
@@ -30,8 +30,8 @@ impl Extent {
     }
 }
 
-/// The judge's groups: a forest by size with no path compression, where at equal size the joiner's
-/// top stays.
+/// The groups of union-find: a forest by size with no path compression, where at equal size the
+/// joiner's top stays.
 struct Forest {
     parent: Vec<usize>,
     size: Vec<usize>,

@@ -16,7 +16,7 @@ macro_rules! declare {
     };
 }
 
-declare!(JudgeCall, [racejudge_judge, hand_judge, aligned_judge], (
+declare!(JudgeCall, [racejudge_judge, twoorders_judge, unionfind_judge], (
     kinds: *const u8, kinds_len: usize,
     tasks: *const u16, tasks_len: usize,
     operands: *const u16, operands_len: usize,
@@ -26,7 +26,7 @@ declare!(JudgeCall, [racejudge_judge, hand_judge, aligned_judge], (
     values: *mut [u64; 2],
 ));
 
-declare!(OrderingCall, [racejudge_ordering, hand_ordering, aligned_ordering], (
+declare!(OrderingCall, [racejudge_ordering, twoorders_ordering, unionfind_ordering], (
     kinds: *const u8, kinds_len: usize,
     tasks: *const u16, tasks_len: usize,
     operands: *const u16, operands_len: usize,
@@ -36,7 +36,7 @@ declare!(OrderingCall, [racejudge_ordering, hand_ordering, aligned_ordering], (
 ));
 
 extern "C" {
-    fn hand_floor(
+    fn floor_call(
         kinds: *const u8,
         tasks: *const u16,
         operands: *const u16,
@@ -130,12 +130,11 @@ pub struct Judge {
 pub const PROVED: Judge =
     Judge { name: "the library", judge: racejudge_judge, ordering: racejudge_ordering };
 
-pub const HAND: Judge =
-    Judge { name: "hand-written C", judge: hand_judge, ordering: hand_ordering };
+pub const TWO_ORDERS: Judge =
+    Judge { name: "two orders C", judge: twoorders_judge, ordering: twoorders_ordering };
 
-/// The same source, with no branch across a 32-byte bound.
-pub const ALIGNED: Judge =
-    Judge { name: "hand-written C, aligned", judge: aligned_judge, ordering: aligned_ordering };
+pub const UNION_FIND: Judge =
+    Judge { name: "union-find C", judge: unionfind_judge, ordering: unionfind_ordering };
 
 /// No call stores this, so that a call that stores nothing shows.
 const NOTHING: [u64; 2] = [u64::MAX; 2];
@@ -166,5 +165,5 @@ pub fn floor(trace: &Trace, workspace: &mut [u16]) -> u64 {
     let n = kinds.len();
     assert!(tasks.len() == n && operands.len() == n && workspace.len() >= WORKSPACE + n);
     let workspace = workspace.as_mut_ptr();
-    unsafe { hand_floor(kinds.as_ptr(), tasks.as_ptr(), operands.as_ptr(), n, workspace) }
+    unsafe { floor_call(kinds.as_ptr(), tasks.as_ptr(), operands.as_ptr(), n, workspace) }
 }

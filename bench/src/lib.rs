@@ -2,9 +2,9 @@
 //!
 //! Reading order: `trace` (what goes in and comes out), `line` and `ancestors` (the slow judge,
 //! written from document 01 alone), `text` (the text form), `ffi` (the linked judges),
-//! `fasttrack` and `handwritten.c` (the peers), `rng`, `builder`, `workloads` and `samples` (the
-//! traces), `extent` (how near a trace comes to the limits), `program` and `words` (input, output
-//! and command lines).
+//! `twoorders.c`, `unionfind.c` and `fasttrack` (the peers), `rng`, `builder`, `workloads` and
+//! `samples` (the traces), `extent` (how near a trace comes to the limits), `program` and `words`
+//! (input, output and command lines).
 
 pub mod ancestors;
 pub mod builder;

@@ -2,7 +2,7 @@
 
 use racejudge_bench::ancestors::Ancestors;
 use racejudge_bench::fasttrack::FastTrack;
-use racejudge_bench::ffi::{self, Judge, Told, ALIGNED, HAND, PROVED};
+use racejudge_bench::ffi::{self, Judge, Told, PROVED, TWO_ORDERS, UNION_FIND};
 use racejudge_bench::program::mismatch;
 use racejudge_bench::trace::*;
 use std::hint::black_box;
@@ -12,22 +12,22 @@ use std::time::Instant;
 #[derive(Clone, Copy, PartialEq)]
 pub enum Peer {
     Judge,
-    Hand,
-    Aligned,
+    TwoOrders,
+    UnionFind,
     FastTrack,
     Ancestors,
     Floor,
 }
 
 pub const PEERS: [Peer; 6] =
-    [Peer::Judge, Peer::Hand, Peer::Aligned, Peer::FastTrack, Peer::Ancestors, Peer::Floor];
+    [Peer::Judge, Peer::TwoOrders, Peer::UnionFind, Peer::FastTrack, Peer::Ancestors, Peer::Floor];
 
 impl Peer {
     pub fn name(self) -> &'static str {
         match self {
             Peer::Judge => "judge",
-            Peer::Hand => "hand C",
-            Peer::Aligned => "aligned C",
+            Peer::TwoOrders => TWO_ORDERS.name,
+            Peer::UnionFind => UNION_FIND.name,
             Peer::FastTrack => "FastTrack",
             Peer::Ancestors => "ancestors",
             Peer::Floor => "floor",
@@ -68,8 +68,8 @@ impl Peers {
         for _ in 0..batch {
             match peer {
                 Peer::Judge => _ = black_box(self.call(&PROVED, call, trace)),
-                Peer::Hand => _ = black_box(self.call(&HAND, call, trace)),
-                Peer::Aligned => _ = black_box(self.call(&ALIGNED, call, trace)),
+                Peer::TwoOrders => _ = black_box(self.call(&TWO_ORDERS, call, trace)),
+                Peer::UnionFind => _ = black_box(self.call(&UNION_FIND, call, trace)),
                 // Safe: a builder made the trace, and keeps the rules.
                 Peer::FastTrack => _ = black_box(unsafe { self.fasttrack.first_race(trace) }),
                 Peer::Ancestors => _ = black_box(self.ancestors.answer(trace)),
@@ -91,7 +91,7 @@ impl Peers {
     /// buffers.
     fn linked_agree(&mut self, call: Call, trace: &Trace, wanted: Told) {
         let mut left = Vec::new();
-        for judge in [&PROVED, &HAND, &ALIGNED] {
+        for judge in [&PROVED, &TWO_ORDERS, &UNION_FIND] {
             for buffer in [&mut self.workspace, &mut self.first, &mut self.second] {
                 buffer.fill(7);
             }

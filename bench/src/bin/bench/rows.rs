@@ -20,7 +20,6 @@ pub struct Row {
     /// What else tells the row from others.
     detail: String,
     pub events: usize,
-    pub clean: bool,
     call: Call,
     traces: Vec<Trace>,
     batch: usize,
@@ -38,7 +37,6 @@ impl Row {
             name,
             detail: String::new(),
             events,
-            clean: expected == Answer::Clean,
             call,
             batch: if looked_at < SHORT { BATCH } else { 1 },
             best: vec![[f64::INFINITY; PEERS.len()]; traces.len()],

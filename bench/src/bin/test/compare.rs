@@ -5,14 +5,14 @@ use crate::watch::watched;
 use racejudge_bench::ancestors::{Ancestors, Outcome};
 use racejudge_bench::extent::{Extent, LIMITS};
 use racejudge_bench::fasttrack::FastTrack;
-use racejudge_bench::ffi::{Judge, Told, ALIGNED, HAND, PROVED};
+use racejudge_bench::ffi::{Judge, Told, PROVED, TWO_ORDERS, UNION_FIND};
 use racejudge_bench::program::mismatch;
 use racejudge_bench::rng::Rng;
 use racejudge_bench::trace::*;
 use std::fmt::{Debug, Display};
 use std::sync::Arc;
 
-pub const JUDGES: [&Judge; 3] = [&PROVED, &HAND, &ALIGNED];
+pub const JUDGES: [&Judge; 3] = [&PROVED, &TWO_ORDERS, &UNION_FIND];
 
 /// Cells on either side of each lent slice that must stay as they are.
 const GUARD: usize = 16;

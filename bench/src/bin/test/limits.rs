@@ -1,4 +1,5 @@
-//! The limits: 32,768 events, 1,024 tasks, chains of 10 links, and lent slices of every length.
+//! The limits: 32,768 events, 1,024 tasks, chains of 10 links, lent slices of every length; and, for
+//! judges that look at many events at a time, each place in a trace.
 
 use crate::compare::{known, Test};
 use racejudge_bench::builder::Builder;
@@ -13,6 +14,7 @@ pub fn all(test: &mut Test) {
     chains(test);
     buffer_lengths(test);
     slice_lengths(test);
+    places(test);
 }
 
 fn reads(n: usize) -> Trace {
@@ -160,5 +162,64 @@ fn slice_lengths(test: &mut Test) {
             known(said, Answer::Refused(1, 0), &trace);
             known(test.ordering_with(&trace, workspace, 0, 0), Ordering::Refused(1, 0), &trace);
         }
+    }
+}
+
+/// More than two blocks of any judge that looks at many events at a time.
+const PLACES: usize = 300;
+
+/// Each event in turn breaks a rule, is raced with, or races.
+fn places(test: &mut Test) {
+    for p in 0..PLACES {
+        flaws_at(test, p);
+    }
+    for s in 1..PLACES {
+        let mut child = vec![(1, READ, 3); PLACES];
+        child[0] = (0, FORK, 1);
+        child[s] = (1, WRITE, 7);
+        child.extend([(1, HALT, 0), (0, READ, 7)]);
+        let trace = Trace::of(&child);
+        known(test.judge(&trace), Answer::Race(s, PLACES + 1), &trace);
+    }
+    for t in 3..PLACES {
+        let mut parent = vec![(0, READ, 3); PLACES];
+        parent[..3].copy_from_slice(&[(0, FORK, 1), (1, READ, 7), (1, HALT, 0)]);
+        parent[t] = (0, WRITE, 7);
+        let trace = Trace::of(&parent);
+        known(test.judge(&trace), Answer::Race(1, t), &trace);
+    }
+}
+
+/// Event p breaks a rule, or lets the next one break it.
+fn flaws_at(test: &mut Test, p: usize) {
+    const ANY: Event = (0, READ, 3);
+    const LAST: u16 = u16::MAX;
+    let at_once = [
+        ((0, 5, 0), 5),
+        ((0, 255, 3), 5),
+        ((1, READ, 3), 7),
+        ((LAST, READ, 3), 7),
+        ((0, READ, 1_024), 8),
+        ((0, WRITE, LAST), 8),
+        ((0, FORK, 1_024), 9),
+        ((0, FORK, 0), 10),
+        ((0, JOIN, 1), 11),
+        ((0, JOIN, LAST), 11),
+        ((0, HALT, 1), 12),
+    ];
+    let next = [
+        ([(0, HALT, 0), ANY], 6),
+        ([(0, HALT, 0), (LAST, READ, 3)], 6),
+        ([(0, HALT, 0), (LAST, HALT, 0)], 6),
+        ([(0, FORK, 1), ANY], 7),
+        ([(0, FORK, 1), (1, FORK, 1)], 10),
+    ];
+    let at_once = at_once.map(|(event, row)| ([event, ANY], row, p));
+    let next = next.map(|(events, row)| (events, row, p + 1));
+    for (events, row, at) in at_once.into_iter().chain(next) {
+        let mut all = vec![ANY; PLACES + 1];
+        all[p..p + 2].copy_from_slice(&events);
+        let trace = Trace::of(&all);
+        known(test.judge(&trace), Answer::Refused(row, at), &trace);
     }
 }

@@ -1,5 +1,5 @@
-/* The judge's algorithm by hand, as fast as we can make it, with no index checked: the measure for
- * the proved judge. Its answers and buffers are exactly the same.
+/* The judge by another algorithm, by hand, as fast as we can make it, with no index checked: a peer
+ * of the proved judge. Its answers and buffers are exactly the same.
  *
  * Two stacks (halted tasks left of the running one; the running task over its paused ancestors), a
  * union-find forest by size with no path compression, a flag at each top (the group is in left),
@@ -12,8 +12,7 @@
  * nothing; accesses have a loop of their own; the orders are written in one pass with no branch;
  * everything is cleared once at the end.
  *
- * Compiled more than once, under the names NAME_judge, NAME_ordering, NAME_floor. With the name
- * racejudge the compiler holds the calls to the prototypes of racejudge.h. */
+ * Compiled under the names NAME_judge and NAME_ordering. */
 
 #include <stddef.h>
 #include <stdint.h>
@@ -23,6 +22,10 @@
 
 #define GLUED(name, call) name##_##call
 #define EXPORTED(name, call) GLUED(name, call)
+
+/* Whatever the name, the compiler holds the calls to the prototypes of racejudge.h. */
+__typeof__(racejudge_judge) EXPORTED(NAME, judge);
+__typeof__(racejudge_ordering) EXPORTED(NAME, ordering);
 
 enum {
     READ = RACEJUDGE_READ,
@@ -390,15 +393,4 @@ uint64_t EXPORTED(NAME, ordering)(const uint8_t *kinds, size_t n, const uint16_t
     if (row != 0)
         return say(values, RACEJUDGE_REFUSED, row, at);
     return say(values, yes ? RACEJUDGE_YES : RACEJUDGE_NO, 0, 0);
-}
-
-/* The floor: reads every entry of a trace once and clears its workspace once. */
-uint64_t EXPORTED(NAME, floor)(const uint8_t *kinds, const uint16_t *tasks,
-                               const uint16_t *operands, size_t n, uint16_t *ws)
-{
-    uint32_t sum = 0;
-    for (size_t i = 0; i < n; i++)
-        sum += kinds[i] ^ tasks[i] ^ operands[i];
-    memset(ws, 0, (WORKSPACE + n) * sizeof *ws);
-    return sum;
 }
