@@ -1,4 +1,4 @@
-// A union-find forest of tasks, in the first two tables of a workspace.
+// A union-find forest of tasks, in the first two tables of a workspace: the table of joins that document 02 asks for (K2). No call uses it yet.
 // The definitions in `specs/` say what a forest is and what each function leaves; the laws in `proofs/` say what that means for tops.
 ghost use mathlib.Core.Path.{_≡_};
 ghost use Prim.Native.Nat.{_+_, _<_};

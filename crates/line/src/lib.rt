@@ -48,7 +48,7 @@ impl Line {
 }
 
 // The running task.
-pub fn running(ws: &[u16], line: Line) -> u16
+fn running(ws: &[u16], line: Line) -> u16
     requires { ⌜ Sound (now ws) line ⌝ }
     requires { ⌜ 0 < line .active ⌝ }
     ensures { λ r. ⌜ r ≡ runningIn (now (ws .entry)) line ⌝ }

@@ -5,5 +5,5 @@ pub mod Spreading
 pub mod Numbering
 pub mod Passing
 pub mod Opening
-pub mod Threading
+pub mod Listing
 pub mod Ranking

@@ -22,7 +22,7 @@ use Rattle.line.specs.Held.{LineCells, LineAt}
 use Rattle.line.proofs.Moves.{running-is}
 use Rattle.line.proofs.Events.{line-access}
 use Rattle.ranks.specs.Lists.{NEXT}
-use Rattle.ranks.specs.States.{StopsIn, SomeStops, Leading, Threaded}
+use Rattle.ranks.specs.States.{StopsIn, SomeStops, Leading, ListAt}
 
 module _ {tr : Trace} {c : List ℕ} {line : Line} where
   -- After an access its task runs on.
@@ -32,7 +32,7 @@ module _ {tr : Trace} {c : List ℕ} {line : Line} where
       let cells = subst (λ (l : List ℕ). LineCells c line (at .left) l (at .used)) (first .1) (at .cells) in
       (omega (arith, cells .active-depth), sym (running-is cells))
 
-  pass-one : {g q : ℕ} → Threaded tr (suc q) c line g → QuietAfter tr q → Threaded tr (suc (suc q)) c line g
+  pass-one : {g q : ℕ} → ListAt tr (suc q) c line g → QuietAfter tr q → ListAt tr (suc (suc q)) c line g
   pass-one {q = q} t quiet =
       let on = runs-on (t .at) (quiet .before) in
       let a = quiet .access in
@@ -44,15 +44,15 @@ module _ {tr : Trace} {c : List ℕ} {line : Line} where
         halts = rw (segments-access tr (suc q) a) (t .halts);
       }
 
-  pass-next : {g : ℕ} (p : ℕ) → Threaded tr p c line g → isStop tr p ≡ false → Threaded tr (suc p) c line g
+  pass-next : {g : ℕ} (p : ℕ) → ListAt tr p c line g → isStop tr p ≡ false → ListAt tr (suc p) c line g
   pass-next zero t e = absurd (true≢false (sym (stop-zero tr) ∙ e))
   pass-next (suc q) t e = pass-one t (quiet-event tr q e)
 
   -- The cells that are those before event i are those before event p, where no event from i on up to p is a stop.
-  pub passed-over : {g i : ℕ} (p : ℕ) → i ≤ p → Threaded tr i c line g → ((q : ℕ) → i ≤ q → q < p → isStop tr q ≡ false) → Threaded tr p c line g
-  passed-over {g} {i} zero h t quiet = let same : i ≡ 0 = omega arith in subst (λ (n : ℕ). Threaded tr n c line g) same t
+  pub passed-over : {g i : ℕ} (p : ℕ) → i ≤ p → ListAt tr i c line g → ((q : ℕ) → i ≤ q → q < p → isStop tr q ≡ false) → ListAt tr p c line g
+  passed-over {g} {i} zero h t quiet = let same : i ≡ 0 = omega arith in subst (λ (n : ℕ). ListAt tr n c line g) same t
   passed-over {g} {i} (suc p) h t quiet =
-      either (last-or-below i (suc p) (omega arith)) (λ same. subst (λ (n : ℕ). Threaded tr n c line g) same t)
+      either (last-or-below i (suc p) (omega arith)) (λ same. subst (λ (n : ℕ). ListAt tr n c line g) same t)
       (λ l. pass-next p (passed-over p (omega arith) t (λ q low high. quiet q low (omega arith))) (quiet p (omega arith) (omega arith)))
 
 -- There is an event for each stop.

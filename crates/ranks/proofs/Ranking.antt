@@ -27,7 +27,7 @@ use Rattle.trace.proofs.Numbers.{Numbers, numbers-agree}
 use Rattle.cells.specs.Cells.{Rest, SameBeyond, NUMBER}
 use Rattle.stops.specs.Stops.{isStop, stopsBefore, Collected}
 use Rattle.ranks.specs.Lists.{NEXT, SEGMENTS, Listed}
-use Rattle.ranks.specs.States.{StopsIn, Leading, ThreadSays, kindsOnly, ownNumber, RankSays}
+use Rattle.ranks.specs.States.{StopsIn, Leading, ListSays, kindsOnly, ownNumber, RankSays}
 
 -- ---- the segments ask for the kinds alone
 
@@ -68,7 +68,7 @@ module _ (kinds : List ℕ) where
 
 -- ---- the list
 
-module _ {tr : Trace} {n events : ℕ} {entry c : List ℕ} {row : ℕ} (says : ThreadSays tr n entry c events row) where
+module _ {tr : Trace} {n events : ℕ} {entry c : List ℕ} {row : ℕ} (says : ListSays tr n entry c events row) where
   pub moves-few : moves tr events < SEGMENTS
   moves-few =
       let kept = graph-kept haltOperand tr n in
@@ -153,7 +153,7 @@ stops-rest collected = record { long = collected .long; same = λ i h. collected
 -- ---- the numbers
 
 module _ (kinds tasks operands : List ℕ) {n events : ℕ} {entry b c d : List ℕ} {row : ℕ}
-    (collected : Rest n entry b) (says : ThreadSays (traceOf kinds tasks operands) n b c events row) (room : WORKSPACE-CELLS + n ≤ length entry)
+    (collected : Rest n entry b) (says : ListSays (traceOf kinds tasks operands) n b c events row) (room : WORKSPACE-CELLS + n ≤ length entry)
     (all : length kinds ≡ n) (walk : d ≡ rankIn NEXT SEGMENTS 0 0 c) where
   abbrev tr : Trace
   tr = traceOf kinds tasks operands

@@ -24,7 +24,7 @@ use Rattle.ranks.specs.Lists.{FORKS, HALTS, NEXT, SEGMENTS}
 -- ---- the rules and the list
 
 -- After n events: the line, the list of the segments, and the two stacks of segments. Segment g is open.
-pub record Threaded (tr : Trace) (n : ℕ) (c : List ℕ) (line : Line) (g : ℕ) : Type 0 where
+pub record ListAt (tr : Trace) (n : ℕ) (c : List ℕ) (line : Line) (g : ℕ) : Type 0 where
   pub at : LineAt tr n c line
   pub current : g ≡ moves tr n
   pub list : Holding tr NEXT n c
@@ -49,13 +49,13 @@ Leading kinds k = (p : ℕ) → p < k → isAccess (getD kinds p 0) ≡ true
 -- Before the first event.
 pub record Begun (entry exit : List ℕ) (line : Line) : Type 0 where
   pub beyond : SameBeyond entry exit
-  pub threaded : (tr : Trace) → Threaded tr 0 exit line 0
+  pub list-at : (tr : Trace) → ListAt tr 0 exit line 0
 
 -- Event n keeps the rules, and then the cells are those after it; or it is the first that breaks one, and no cell changes.
 pub record TakeSays (tr : Trace) (n : ℕ) (entry exit : List ℕ) (line : Line) (g row : ℕ) : Type 0 where
   pub beyond : SameBeyond entry exit
   pub kept : row ≡ 0 →
-      Movable line (tr .kind n) × Threaded tr (suc n) exit (afterIn line (ruleOf (tr .kind n))) (cond (isAccess (tr .kind n)) g (suc g))
+      Movable line (tr .kind n) × ListAt tr (suc n) exit (afterIn line (ruleOf (tr .kind n))) (cond (isAccess (tr .kind n)) g (suc g))
   pub broken : row ≢ 0 → (exit ≡ entry) × BreaksFirst tr n row
 
 -- All of the n events keep the rules, or those before this one do and it meets the row.
@@ -64,7 +64,7 @@ pub record RulesSay (tr : Trace) (n events row : ℕ) : Type 0 where
   pub none-met : row ≡ 0 → (events ≡ n) × KeepsRules tr n
   pub met : row ≢ 0 → (events < n) × BreaksFirst tr events row
 
-pub record ThreadSays (tr : Trace) (n : ℕ) (entry exit : List ℕ) (events row : ℕ) : Type 0 where
+pub record ListSays (tr : Trace) (n : ℕ) (entry exit : List ℕ) (events row : ℕ) : Type 0 where
   pub beyond : SameBeyond entry exit
   pub rules : RulesSay tr n events row
   pub list : Holding tr NEXT events exit
@@ -82,7 +82,7 @@ ownNumber kinds c p = getD c (NEXT + segment (kindsOnly kinds) p) 0
 abbrev pub Spread : List ℕ → ℕ → List ℕ → List ℕ → Type 0
 Spread kinds events entry exit = Filled NUMBER events (ownNumber kinds entry) entry exit
 
--- The segments of the first `events` events have their numbers, that of the first one 0.
+-- The cells can hold the numbers of the segments of the first `events` events; that of the first one is 0.
 pub record SegmentsIn (kinds : List ℕ) (events : ℕ) (c : List ℕ) : Type 0 where
   pub within : events ≤ length kinds
   pub few : moves (kindsOnly kinds) events < SEGMENTS

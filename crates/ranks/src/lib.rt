@@ -12,7 +12,7 @@ ghost use Rattle.segments.proofs.SegmentCells.{linkIn, rankIn};
 ghost use Rattle.cells.specs.Cells.{NUMBER};
 ghost use Rattle.line.specs.declared.Line.{Line};
 ghost use Rattle.ranks.specs.Lists.{NEXT, SEGMENTS, sourceIn, ownIn, Readable, pushedIn, openedIn, Openable, Listed};
-ghost use Rattle.ranks.specs.States.{StopsIn, SomeStops, Leading, Begun, Threaded, TakeSays, ThreadSays};
+ghost use Rattle.ranks.specs.States.{StopsIn, SomeStops, Leading, Begun, ListAt, TakeSays, ListSays};
 ghost use Rattle.ranks.specs.States.{kindsOnly, ownNumber, Spread, SegmentsIn, RankSays};
 use line::Line;
 use trace::FORK;
@@ -96,7 +96,7 @@ fn open_next(ws: &mut [u16], line: Line, kind: u8, current: u16)
 }
 
 // The open segment after an event of this kind.
-fn next_open(kind: u8, current: u16) -> u16
+fn open_after(kind: u8, current: u16) -> u16
     requires { ⌜ current < SEGMENTS ⌝ }
     ensures { λ r. ⌜ r ≡ cond (isAccess kind) current (suc current) ⌝ }
 {
@@ -139,7 +139,7 @@ fn take(
 ) -> usize
     requires { ⌜ (length (now tasks) ≡ length (now kinds)) × (length (now operands) ≡ length (now kinds)) ⌝ }
     requires { ⌜ i < length (now kinds) ⌝ }
-    requires { ⌜ Threaded (lentTrace kinds tasks operands) i (now ws) line current ⌝ }
+    requires { ⌜ ListAt (lentTrace kinds tasks operands) i (now ws) line current ⌝ }
     ensures { λ r. ⌜ TakeSays (lentTrace (kinds .entry) (tasks .entry) (operands .entry)) i (now (ws .entry)) (now (ws .exit)) line current r ⌝ }
 {
     let kind = kinds[i];
@@ -154,23 +154,29 @@ fn take(
 }
 
 // The stops in position order, up to the first event that breaks a rule. The events between them are accesses that keep the rules where the stops do.
-fn thread(kinds: &[u8], tasks: &[u16], operands: &[u16], ws: &mut [u16], count: usize) -> Kept
+fn list_segments(
+    kinds: &[u8],
+    tasks: &[u16],
+    operands: &[u16],
+    ws: &mut [u16],
+    count: usize,
+) -> Kept
     requires { ⌜ Sized (now kinds) (now tasks) (now operands) (now ws) (length (now kinds)) ⌝ }
     requires { ⌜ StopsIn (lentTrace kinds tasks operands) (length (now kinds)) (now ws) count ⌝ }
-    ensures { λ r. ⌜ ThreadSays (lentTrace (kinds .entry) (tasks .entry) (operands .entry)) (length (now (kinds .entry)))
+    ensures { λ r. ⌜ ListSays (lentTrace (kinds .entry) (tasks .entry) (operands .entry)) (length (now (kinds .entry)))
         (now (ws .entry)) (now (ws .exit)) (r .events) (r .row) ⌝ }
 {
     let mut line = begin(ws);
     let mut current: u16 = 0;
     let mut k = 0;
     while k < count {
-        let i = cells::number(ws, k) as usize;
+        let i = stops::position(ws, k);
         let row = take(kinds, tasks, operands, ws, line, current, i);
         if row != 0 {
             return Kept { events: i, row };
         }
         line = line::after(line, kinds[i]);
-        current = next_open(kinds[i], current);
+        current = open_after(kinds[i], current);
         k += 1;
     }
     Kept {
@@ -195,7 +201,7 @@ fn number(ws: &mut [u16])
     }
 }
 
-// The segment that is open before event p: as many moves as come before it. No branch depends on an event, so that many are counted at a time.
+// The segment that is open before event p: as many moves as come before it. The loop only counts, so that the compiler takes many events at a time.
 fn open_before(kinds: &[u8], p: usize) -> u16
     requires { ⌜ (p ≤ length (now kinds)) × (moves (kindsOnly (now kinds)) p < SEGMENTS) ⌝ }
     ensures { λ r. ⌜ r ≡ moves (kindsOnly (now (kinds .entry))) p ⌝ }
@@ -203,7 +209,7 @@ fn open_before(kinds: &[u8], p: usize) -> u16
     let mut current: u16 = 0;
     let mut i = 0;
     while i < p {
-        current = next_open(kinds[i], current);
+        current = open_after(kinds[i], current);
         i += 1;
     }
     current
@@ -229,12 +235,12 @@ pub fn spread(kinds: &[u8], ws: &mut [u16], events: usize)
     while p < events {
         let own = own_segment(kinds[p], current);
         ws[cells::NUMBER + p] = cells::cell(ws, NEXT, own);
-        current = next_open(kinds[p], current);
+        current = open_after(kinds[p], current);
         p += 1;
     }
 }
 
-// How many of the first `events` events, up to the first move or later stop, are accesses.
+// So many events at the start are accesses: those before the second stop, where event 0 is one. At most `events`.
 fn leading(kinds: &[u8], ws: &[u16], count: usize, events: usize) -> usize
     requires { ⌜ SomeStops (now kinds) (now ws) count ⌝ }
     requires { ⌜ (events ≤ length (now kinds)) × (NUMBER + length (now kinds) ≤ length (now ws)) ⌝ }
@@ -249,7 +255,7 @@ fn leading(kinds: &[u8], ws: &[u16], count: usize, events: usize) -> usize
     if count < 2 {
         return events;
     }
-    let second = cells::number(ws, 1) as usize;
+    let second = stops::position(ws, 1);
     if events < second {
         return events;
     }
@@ -272,7 +278,7 @@ pub fn rank(kinds: &[u8], tasks: &[u16], operands: &[u16], ws: &mut [u16]) -> Ra
     ensures { λ r. ⌜ (r .leading ≤ r .events) × Leading (now (kinds .entry)) (r .leading) ⌝ }
 {
     let count = stops::collect(kinds, tasks, operands, ws);
-    let kept = thread(kinds, tasks, operands, ws, count);
+    let kept = list_segments(kinds, tasks, operands, ws, count);
     let leading = leading(kinds, ws, count, kept.events);
     number(ws);
     Ranked {

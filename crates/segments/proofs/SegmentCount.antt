@@ -1,16 +1,13 @@
 -- At most 3,071 segments begin in a trace that keeps the rules: with u numbers used there were u - 1 forks, each task but the a active ones has halted,
 -- and each halted one but those of `left` was joined. So three tables of 1,024 cells hold the order of the segments. Assumes nothing.
-use Prim.Native.Nat.{ℕ, zero, suc, _+_, _<_, _≤_}
-use mathlib.Core.Path.{_≡_, refl}
+use Prim.Native.Nat.{ℕ, suc, _+_, _<_, _≤_}
+use mathlib.Core.Path.{_≡_}
 use mathlib.Core.List.{List}
 use native.Mathlib.Omega.{arith}
 use lib.ListN.{length}
-use Rattle.trace.specs.Trace.{Trace, FORK, JOIN, HALT, isAccess, TASKS}
+use Rattle.trace.specs.Trace.{Trace, TASKS}
 use Rattle.trace.specs.Line.{Line, passes, lineAfter}
-use Rattle.trace.specs.Orders.{oneIf}
 use Rattle.segments.specs.Segments.{moves}
-use Rattle.trace.proofs.Lists.{oneIf-other}
-use Rattle.trace.proofs.EventKinds.{access-not-fork, access-not-join, access-not-halt}
 use Rattle.trace.proofs.Stacks.{distinct-length}
 use Rattle.trace.proofs.Run.{Run, start, access, fork, join, halt, used-numbers}
 use Rattle.trace.proofs.TwoStacks.{run-of}
@@ -40,31 +37,6 @@ module _ (haltRule : Line → ℕ) (tr : Trace) where
       let u = used-numbers haltRule tr run in
       omega (arith, c .counted, c .some-task, distinct-length TASKS used (u .distinct) (u .small))
 
-  -- The segments that have begun, 0 to moves n, are at most 3,071,
+  -- The segments that have begun, 0 to moves n, are at most 3,071.
   pub segments-few : (n : ℕ) (line : Line) → lineAfter haltRule tr n ≡ passes line → suc (moves tr n) ≤ 3071
   segments-few n line e = few (run-of haltRule tr n line e .run)
-
--- ---- the segment of an event, by kinds
-
--- How many of the first n events are of kind k.
-abbrev pub ofKind : Trace → ℕ → ℕ → ℕ
-ofKind tr k zero = 0
-ofKind tr k (suc n) = oneIf (tr .kind n) k + ofKind tr k n
-
-module _ (haltRule : Line → ℕ) (tr : Trace) where
-  moves-by-kinds : {n : ℕ} {left active used : List ℕ} {last : ℕ → ℕ} → Run haltRule tr n left active used last →
-      moves tr n ≡ ofKind tr FORK n + ofKind tr HALT n + ofKind tr JOIN n
-  unfolding moves oneIf isAccess
-  moves-by-kinds start = refl
-  moves-by-kinds (access {n = n} run k o) =
-      omega (
-        arith,
-        moves-by-kinds run,
-        moves-access tr n k,
-        oneIf-other (tr .kind n) FORK (access-not-fork (tr .kind n) k),
-        oneIf-other (tr .kind n) HALT (access-not-halt (tr .kind n) k),
-        oneIf-other (tr .kind n) JOIN (access-not-join (tr .kind n) k),
-      )
-  moves-by-kinds (fork {n = n} run k o new) = rw k (omega (arith, moves-by-kinds run))
-  moves-by-kinds (join {n = n} run k) = rw k (omega (arith, moves-by-kinds run))
-  moves-by-kinds (halt {n = n} run k o) = rw k (omega (arith, moves-by-kinds run))

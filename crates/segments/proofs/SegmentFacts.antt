@@ -231,7 +231,8 @@ module _ (tr : Trace) where
   unfolding source opened
   opens-join n k = opens n _ _ _ (join-moves tr n k) (rw k) (rw k) (rw k)
 
-  pub opens-halt : (n : ℕ) → tr .kind n ≡ HALT → Opens n (top (moves tr n) (segments tr n .forks)) (tail (segments tr n .forks)) (moves tr n ∷ segments tr n .halts)
+  pub opens-halt : (n : ℕ) → tr .kind n ≡ HALT →
+      Opens n (top (moves tr n) (segments tr n .forks)) (tail (segments tr n .forks)) (moves tr n ∷ segments tr n .halts)
   unfolding source opened
   opens-halt n k = opens n _ _ _ (halt-moves tr n k) (rw k) (rw k) (rw k)
 

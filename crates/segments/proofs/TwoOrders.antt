@@ -28,7 +28,8 @@ use Rattle.trace.proofs.TwoStacks.{run-of}
 use Rattle.trace.proofs.Tips.{ReachesTip, tips, reach-own, reach-join, reach-from}
 use Rattle.trace.proofs.Forward.{forward as arcs-forward}
 use Rattle.segments.proofs.Insertion.{Inserted}
-use Rattle.segments.proofs.SegmentFacts.{moves-access, moves-move, segments-access, segment-own, segment-join, segment-old, join-moves, old, segments-order, kept-next, rank-prefix, opens-fork, opens-join, opens-halt}
+use Rattle.segments.proofs.SegmentFacts.{moves-access, moves-move, segments-access, segment-own, segment-join, segment-old, join-moves, old}
+use Rattle.segments.proofs.SegmentFacts.{segments-order, kept-next, rank-prefix, opens-fork, opens-join, opens-halt}
 use Rattle.segments.proofs.SegmentStacks.{Ended, stacked}
 
 -- ---- the order reads: forks turned round, the open segment, halts

@@ -1,5 +1,5 @@
 // The events that must be held to the line rules. An access to a location below 1,024 by the task of the event before it, an access too, keeps the rules where
-// that one did, and leaves the line: it is passed over. Every other event is a stop. The stops are found ahead of the rules, in two passes with no
+// that one did, and does not change the line: it is passed over. Every other event is a stop. The stops are found ahead of the rules, in two passes with no
 // branch that depends on an event, so that none can be mispredicted.
 ghost use mathlib.Core.Path.{_≡_};
 ghost use Prim.Native.Nat.{_+_, _≤_, _<_};
@@ -7,7 +7,7 @@ ghost use lib.ListN.{length};
 ghost use Rattle.trace.specs.Trace.{MAX-EVENTS};
 ghost use Rattle.trace.specs.Lent.{lentTrace};
 ghost use Rattle.trace.proofs.Sizes.{Sized};
-ghost use Rattle.cells.specs.Cells.{Filled, NUMBER};
+ghost use Rattle.cells.specs.Cells.{Filled, NUMBER, numberIn};
 ghost use Rattle.stops.specs.Stops.{isStop, markOf, Marks, isMarked, Collected};
 use cells::NUMBER;
 use trace::LOCATIONS;
@@ -67,4 +67,12 @@ pub fn collect(kinds: &[u8], tasks: &[u16], operands: &[u16], ws: &mut [u16]) ->
 {
     mark(kinds, tasks, operands, ws);
     gather(ws, kinds.len())
+}
+
+// The position of stop k.
+pub fn position(ws: &[u16], k: usize) -> usize
+    requires { ⌜ NUMBER + k < length (now ws) ⌝ }
+    ensures { λ r. ⌜ r ≡ numberIn (now (ws .entry)) k ⌝ }
+{
+    cells::number(ws, k) as usize
 }

@@ -19,7 +19,7 @@ second c =
     let access = sym (c .before .before .before .before .is-access .ensures) ∙ not-false _ (c .before .before .before .if2 .left) in (
       c .if4 .left,
       leading-second (start .pre .0) (start .pre .1 .0) (c .before .before .before .before .before .before .if1 .left) access (c .before .before .if3 .left) _
-          (c .before .number .ensures),
+          (c .before .position .ensures),
     )
 
 less : tie.Need-returns-4
@@ -28,11 +28,11 @@ less c =
     let access = sym (c .before .before .before .before .is-access .ensures) ∙ not-false _ (c .before .before .before .if2 .left) in (
       omega arith,
       leading-less (start .pre .0) (start .pre .1 .0) (c .before .before .before .before .before .before .if1 .left) access (c .before .before .if3 .left) _
-          (c .before .number .ensures) (c .if4 .taken),
+          (c .before .position .ensures) (c .if4 .taken),
     )
 
-number-requires : tie.Need-number-requires
-number-requires c κs =
+position-requires : tie.Need-position-requires
+position-requires c κs =
     let start = c .before .before .before .before .before .before .before in
     omega (arith, start .pre .1 .1, stop-inside (start .pre .0 .stops) (c .if3 .left))
 
@@ -45,7 +45,6 @@ leading-spec =
     (λ c κs. search needs)
     (λ c. (omega arith, λ p h. absurd (omega arith)))
     all
-    number-requires
-    (λ c. search needs)
+    position-requires
     less
     second)

@@ -22,5 +22,5 @@ open-before-spec =
     (λ c κs. count-few (c .before .before .loop .inv) (c .before .before .before .before .pre .1))
     (λ c. search needs)
     (λ c. search needs)
-    (λ c. count-turn (c .before .before .before .loop .inv) (c .before .before .loop-test .taken) _ (c .next-open .ensures))
+    (λ c. count-turn (c .before .before .before .loop .inv) (c .before .before .loop-test .taken) _ (c .open-after .ensures))
     (λ c. count-finish (c .before .loop .inv) (c .loop-test .left)))

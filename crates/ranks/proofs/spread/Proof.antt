@@ -35,8 +35,8 @@ mul-ws c = let long = c .before .before .before .before .before .loop .inv .fill
 slice-write-ws : tie.Need-slice-write-ws Inv-loop μ-loop
 slice-write-ws c = let long = c .before .before .before .before .before .loop .inv .filled .long in search needs
 
-next-open-requires : tie.Need-next-open-requires Inv-loop μ-loop
-next-open-requires c κs =
+open-after-requires : tie.Need-open-after-requires Inv-loop μ-loop
+open-after-requires c κs =
     let at = c .before .before .before .before .before .before in
     count-few (at .loop .inv .counting) (at .before .before .before .pre .0 .few)
 
@@ -45,7 +45,7 @@ loop-again c =
     let turn = c .before .before .before .before .before .before in
     let start = turn .before .before .before .before in
     spread-turn (turn .before .loop .inv) (start .pre .0 .few) _ (c .before .before .before .before .own-segment .ensures) (turn .loop-test .taken) _ _
-    (start .pre .1) (c .before .before .cell .ensures) (c .next-open .ensures)
+    (start .pre .1) (c .before .before .cell .ensures) (c .open-after .ensures)
 
 pub spread-spec : {M : Type 1} → statement M
 spread-spec =
@@ -61,7 +61,7 @@ spread-spec =
     mul-ws
     slice-write-ws
     (λ c. search needs)
-    next-open-requires
+    open-after-requires
     (λ c. search needs)
     (λ c. search needs)
     loop-again

@@ -44,7 +44,8 @@ returns c =
     let start = cleared .before .before .before .before .before in
     scan-answer _ _ _ _ _ _ (cleared .clear .ensures) (start .pre) _ _
     (scan-race _ _ _ _ (turn .before .loop .inv) (omega arith) (sym (then .before .is-access .ensures) ∙ then .if1 .taken)
-    (called .before .open-number .result) (called .before .open-number .ensures) _ (called .passes .result) (not-true _ (c .if2 .taken)) (called .passes .ensures))
+    (called .before .open-number .result) (called .before .open-number .ensures) _ (called .passes .result)
+    (not-true _ (c .if2 .taken)) (called .passes .ensures))
 
 same-length : tie.Need-same-length Inv-loop μ-loop
 same-length c = returns c .1 .long

@@ -1,17 +1,17 @@
--- `ranks::thread` meets its contract. Assumes nothing.
+-- `ranks::list_segments` meets its contract. Assumes nothing.
 use Prim.Native.Nat.{_-_}
 use native.Mathlib.Omega.{arith}
 use borrow.Author.Needs.{needs}
 use lib.ListN.{length}
 use Rattle.trace.specs.Trace.{traceOf}
 use Rattle.ranks.proofs.Passing.{stop-inside}
-use Rattle.ranks.proofs.Threading.{Threading, threading-begin, threading-stop, taken-movable, taken-turn, threading-broken}
-use Rattle.ranks.proofs.Threading.{threading-finish, threaded-few}
-use Rattle.ranks.proofs.thread.Statement.{statement}
-use Rattle.ranks.proofs.thread.Tie as tie
+use Rattle.ranks.proofs.Listing.{Listing, listing-begin, listing-stop, taken-movable, taken-turn, listing-broken}
+use Rattle.ranks.proofs.Listing.{listing-finish, list-few}
+use Rattle.ranks.proofs.list_segments.Statement.{statement}
+use Rattle.ranks.proofs.list_segments.Tie as tie
 
 abbrev Inv-loop : tie.InvT-loop
-Inv-loop kinds tasks operands ws₀ count line₀ current₀ k₀ ws line current k = Threading (traceOf kinds tasks operands) (length kinds) ws₀ ws line current k
+Inv-loop kinds tasks operands ws₀ count line₀ current₀ k₀ ws line current k = Listing (traceOf kinds tasks operands) (length kinds) ws₀ ws line current k
 
 abbrev μ-loop : tie.MeasureT-loop
 μ-loop kinds tasks operands ws₀ count line₀ current₀ k₀ ws line current k = count - k
@@ -20,10 +20,10 @@ begin-requires : tie.Need-begin-requires Inv-loop μ-loop
 begin-requires c κs = let room = c .before .before .before .before .before .pre .0 .room in omega arith
 
 loop-holds : tie.Need-loop-holds Inv-loop μ-loop
-loop-holds c = threading-begin _ _ (c .before .before .begin .ensures)
+loop-holds c = listing-begin _ _ (c .before .before .begin .ensures)
 
-number-requires : tie.Need-number-requires Inv-loop μ-loop
-number-requires c κs =
+position-requires : tie.Need-position-requires Inv-loop μ-loop
+position-requires c κs =
     let at = c .before .before in
     let start = at .before .before .before .before .before .before .before .before .before in
     let long = at .loop .inv .beyond .long in
@@ -35,9 +35,9 @@ take-requires c κs =
     let at = c .before .before .before .before in
     let start = at .before .before .before .before .before .before .before .before .before in
     let sized = start .pre .0 in
-    let stop = threading-stop (at .before .before .before .begin .ensures .beyond) (start .pre .1) (at .loop .inv) (c .before .before .before .loop-test .taken)
-    _ (c .before .number .ensures) in
-    ((sized .of-tasks, sized .of-operands), (stop .inside, stop .threaded))
+    let stop = listing-stop (at .before .before .before .begin .ensures .beyond) (start .pre .1) (at .loop .inv) (c .before .before .before .loop-test .taken)
+    _ (c .before .position .ensures) in
+    ((sized .of-tasks, sized .of-operands), (stop .inside, stop .list-at))
 
 returns : tie.Need-returns Inv-loop μ-loop
 returns c =
@@ -45,30 +45,30 @@ returns c =
     let at = turn .before in
     let start = at .before .before .before .before .before .before .before .before .before in
     let first = at .before .before .before .begin .ensures .beyond in
-    let stop = threading-stop first (start .pre .1) (at .loop .inv) (turn .loop-test .taken) _ (c .before .before .before .before .before .number .ensures) in
-    threading-broken first (start .pre .1) (at .loop .inv) stop (c .before .before .before .take .ensures) (c .if1 .taken)
+    let stop = listing-stop first (start .pre .1) (at .loop .inv) (turn .loop-test .taken) _ (c .before .before .before .before .before .position .ensures) in
+    listing-broken first (start .pre .1) (at .loop .inv) stop (c .before .before .before .take .ensures) (c .if1 .taken)
 
 after-read : tie.Need-shared-slice-read-after Inv-loop μ-loop
 after-read c =
     let turn = c .before .before .before .before .before .before .before .before in
     let at = turn .before in
     let start = at .before .before .before .before .before .before .before .before .before in
-    threading-stop (at .before .before .before .begin .ensures .beyond) (start .pre .1) (at .loop .inv) (turn .loop-test .taken) _
-    (c .before .before .before .before .before .before .number .ensures) .inside
+    listing-stop (at .before .before .before .begin .ensures .beyond) (start .pre .1) (at .loop .inv) (turn .loop-test .taken) _
+    (c .before .before .before .before .before .before .position .ensures) .inside
 
 after-requires : tie.Need-after-requires Inv-loop μ-loop
 after-requires c κs = taken-movable _ _ _ (c .before .before .before .before .take .ensures) (c .before .if1 .left)
 
-next-open-read : tie.Need-shared-slice-read-next-open Inv-loop μ-loop
-next-open-read c =
+open-after-read : tie.Need-shared-slice-read-open-after Inv-loop μ-loop
+open-after-read c =
     let turn = c .before .before .before .before .before .before .before .before .before .before in
     let at = turn .before in
     let start = at .before .before .before .before .before .before .before .before .before in
-    threading-stop (at .before .before .before .begin .ensures .beyond) (start .pre .1) (at .loop .inv) (turn .loop-test .taken) _
-    (c .before .before .before .before .before .before .before .before .number .ensures) .inside
+    listing-stop (at .before .before .before .begin .ensures .beyond) (start .pre .1) (at .loop .inv) (turn .loop-test .taken) _
+    (c .before .before .before .before .before .before .before .before .position .ensures) .inside
 
-next-open-requires : tie.Need-next-open-requires Inv-loop μ-loop
-next-open-requires c κs = threaded-few (c .before .before .before .before .before .before .before .before .before .before .before .loop .inv .threaded)
+open-after-requires : tie.Need-open-after-requires Inv-loop μ-loop
+open-after-requires c κs = list-few (c .before .before .before .before .before .before .before .before .before .before .before .loop .inv .list-at)
 
 loop-again : tie.Need-loop-again Inv-loop μ-loop
 loop-again c =
@@ -76,34 +76,33 @@ loop-again c =
     let at = turn .before in
     let start = at .before .before .before .before .before .before .before .before .before in
     let first = at .before .before .before .begin .ensures .beyond in
-    let stop = threading-stop first (start .pre .1) (at .loop .inv) (turn .loop-test .taken) _
-    (c .before .before .before .before .before .before .before .before .before .number .ensures) in
+    let stop = listing-stop first (start .pre .1) (at .loop .inv) (turn .loop-test .taken) _
+    (c .before .before .before .before .before .before .before .before .before .position .ensures) in
     taken-turn _ _ _ (c .before .before .before .before .before .before .before .take .ensures) (c .before .before .before .before .if1 .left) first
-    (start .pre .1) (at .loop .inv) stop _ _ (c .before .before .after .ensures) (c .next-open .ensures)
+    (start .pre .1) (at .loop .inv) stop _ _ (c .before .before .after .ensures) (c .open-after .ensures)
 
 returns-2 : tie.Need-returns-2 Inv-loop μ-loop
 returns-2 c =
     let at = c .before in
     let start = at .before .before .before .before .before .before .before .before .before in
-    threading-finish (at .before .before .before .begin .ensures .beyond) (start .pre .1) (at .loop .inv) (c .loop-test .left)
+    listing-finish (at .before .before .before .begin .ensures .beyond) (start .pre .1) (at .loop .inv) (c .loop-test .left)
 
-pub thread-spec : {M : Type 1} → statement M
-thread-spec =
+pub list-segments-spec : {M : Type 1} → statement M
+list-segments-spec =
     tie.close
     (tie.spec
     Inv-loop
     μ-loop
     begin-requires
     loop-holds
-    number-requires
-    (λ c. search needs)
+    position-requires
     take-requires
     (λ c. search needs)
     returns
     after-read
     after-requires
-    next-open-read
-    next-open-requires
+    open-after-read
+    open-after-requires
     (λ c. search needs)
     (λ c. search needs)
     loop-again

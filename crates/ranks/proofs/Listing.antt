@@ -34,7 +34,7 @@ use Rattle.line.proofs.Moves.{stack-frame, line-frame, free-beyond, start-free}
 use Rattle.line.proofs.EventLaw.{line-start}
 use Rattle.line.proofs.Events.{event-broken, event-unchanged, event-next, event-kind, event-active, event-movable, event-free}
 use Rattle.ranks.specs.Lists.{FORKS, HALTS, NEXT, SEGMENTS, sourceIn, pushedIn, openedIn, Openable}
-use Rattle.ranks.specs.States.{Threaded, Begun, TakeSays, ThreadSays, StopsIn}
+use Rattle.ranks.specs.States.{ListAt, Begun, TakeSays, ListSays, StopsIn}
 use Rattle.ranks.proofs.Passing.{passed-over}
 use Rattle.ranks.proofs.Opening.{pushed-length, opened-length, opened-line, opened-beyond, pushed-list, Opened, open-fork, open-join, open-halt}
 
@@ -45,7 +45,7 @@ tail-length [] k e h = absurd (omega arith)
 tail-length (y ∷ l) k e h = e
 
 -- The same list and stacks in cells with the same free ones.
-module _ {tr : Trace} {n : ℕ} (c : List ℕ) {line : Line} {g : ℕ} (t : Threaded tr n c line g) where
+module _ {tr : Trace} {n : ℕ} (c : List ℕ) {line : Line} {g : ℕ} (t : ListAt tr n c line g) where
   stacks-few : length (segments tr n .forks) + length (segments tr n .halts) ≤ TASKS
   stacks-few = stacked-length haltOperand tr (t .at .run)
 
@@ -99,7 +99,7 @@ opened-as d line k g m m′ f f′ h h′ p q r o =
 
 -- ---- the event
 
-module _ (tr : Trace) (n : ℕ) (c : List ℕ) (line : Line) (g : ℕ) (t : Threaded tr n c line g) (row : ℕ) (d : List ℕ)
+module _ (tr : Trace) (n : ℕ) (c : List ℕ) (line : Line) (g : ℕ) (t : ListAt tr n c line g) (row : ℕ) (d : List ℕ)
     (e : rowed (afterIn line (ruleOf (tr .kind n))) row d ≡ eventIn c line (tr .kind n) (tr .task n) (tr .operand n)) where
   abbrev next : Line
   next = afterIn line (ruleOf (tr .kind n))
@@ -108,8 +108,8 @@ module _ (tr : Trace) (n : ℕ) (c : List ℕ) (line : Line) (g : ℕ) (t : Thre
   free = event-free (t .at) next row d e
 
   -- It breaks a rule.
-  pub thread-broken : row ≢ 0 → TakeSays tr n c d line g row
-  thread-broken some =
+  pub list-broken : row ≢ 0 → TakeSays tr n c d line g row
+  list-broken some =
       let unchanged = event-unchanged (t .at) next row d e some in
       record {
         beyond = rest-eq 0 c d unchanged;
@@ -128,8 +128,8 @@ module _ (tr : Trace) (n : ℕ) (c : List ℕ) (line : Line) (g : ℕ) (t : Thre
     can-move = event-movable (t .at) next row d e none
 
     -- It is an access: nothing else is stored.
-    pub thread-access : isAccess (tr .kind n) ≡ true → TakeSays tr n c d line g 0
-    thread-access a =
+    pub list-access : isAccess (tr .kind n) ≡ true → TakeSays tr n c d line g 0
+    list-access a =
         record {
           beyond = free-beyond free;
           kept = λ z. (
@@ -195,8 +195,8 @@ module _ (tr : Trace) (n : ℕ) (c : List ℕ) (line : Line) (g : ℕ) (t : Thre
       few-source : sourceIn d line k g < SEGMENTS
       few-source = let now = t .current in omega (arith, few-g, opened .source-is, source-old tr n k)
 
-      pub thread-openable : Openable d line k g
-      thread-openable =
+      pub list-openable : Openable d line k g
+      list-openable =
           record {
             readable = record { room = room; some-active = some-active; few-active = few-active; few-left = few-left; joins = can-move .joins };
             few = few-g;
@@ -227,8 +227,8 @@ module _ (tr : Trace) (n : ℕ) (c : List ℕ) (line : Line) (g : ℕ) (t : Thre
             same = λ i h. opened-beyond d line k g some-active few-active few-left few-g few-source i (omega arith);
           }
 
-      pub thread-move : (x : List ℕ) → x ≡ openedIn d line k g → TakeSays tr n c x line g 0
-      thread-move x is =
+      pub list-move : (x : List ℕ) → x ≡ openedIn d line k g → TakeSays tr n c x line g 0
+      list-move x is =
           rw is (record {
             beyond = rest-trans (free-beyond free) beyond-opened;
             kept = λ z. (
@@ -250,25 +250,25 @@ not-true : (b : Bool) → not b ≡ true → b ≡ false
 not-true true e = sym e
 not-true false e = refl
 
-module _ (kinds tasks operands : List ℕ) {n : ℕ} {c : List ℕ} {line : Line} {g : ℕ} (t : Threaded (traceOf kinds tasks operands) n c line g)
+module _ (kinds tasks operands : List ℕ) {n : ℕ} {c : List ℕ} {line : Line} {g : ℕ} (t : ListAt (traceOf kinds tasks operands) n c line g)
     (row : ℕ) (d : List ℕ)
     (e : rowed (afterIn line (ruleOf (getD kinds n 0))) row d ≡ eventIn c line (getD kinds n 0) (getD tasks n 0) (getD operands n 0)) where
   pub take-broken : row ≢ 0 → TakeSays (traceOf kinds tasks operands) n c d line g row
   unfolding traceOf
-  take-broken some = thread-broken (traceOf kinds tasks operands) n c line g t row d e some
+  take-broken some = list-broken (traceOf kinds tasks operands) n c line g t row d e some
 
   module _ (none : row ≡ 0) (b : Bool) (is : b ≡ isAccess (getD kinds n 0)) where
     pub take-access : not b ≡ false → TakeSays (traceOf kinds tasks operands) n c d line g 0
     unfolding traceOf
-    take-access a = thread-access (traceOf kinds tasks operands) n c line g t row d e none (sym is ∙ not-false b a)
+    take-access a = list-access (traceOf kinds tasks operands) n c line g t row d e none (sym is ∙ not-false b a)
 
     pub take-openable : not b ≡ true → Openable d line (getD kinds n 0) g
     unfolding traceOf
-    take-openable a = thread-openable (traceOf kinds tasks operands) n c line g t row d e none (sym is ∙ not-true b a)
+    take-openable a = list-openable (traceOf kinds tasks operands) n c line g t row d e none (sym is ∙ not-true b a)
 
     pub take-move : not b ≡ true → (x : List ℕ) → x ≡ openedIn d line (getD kinds n 0) g → TakeSays (traceOf kinds tasks operands) n c x line g 0
     unfolding traceOf
-    take-move a = thread-move (traceOf kinds tasks operands) n c line g t row d e none (sym is ∙ not-true b a)
+    take-move a = list-move (traceOf kinds tasks operands) n c line g t row d e none (sym is ∙ not-true b a)
 
 -- ---- the start
 
@@ -281,7 +281,7 @@ begun {entry} room started stored =
     let long = beyond .long in
     rw (stored, started .0, started .1) (record {
       beyond = rest-set (NEXT + 0) 0 (omega arith) beyond;
-      threaded = λ tr.
+      list-at = λ tr.
           record {
             at =
                 line-frame {c = c} {d = set c (NEXT + 0) 0} (omega (arith, length-set c (NEXT + 0) 0))
@@ -296,30 +296,30 @@ begun {entry} room started stored =
 -- ---- the loop
 
 -- Before each turn the cells are those before the event that follows the last stop that was taken; k were.
-pub record Threading (tr : Trace) (n : ℕ) (entry c : List ℕ) (line : Line) (g k : ℕ) : Type 0 where
+pub record Listing (tr : Trace) (n : ℕ) (entry c : List ℕ) (line : Line) (g k : ℕ) : Type 0 where
   pub position : ℕ
   pub within : position ≤ n
   pub counted : stopsBefore (isStop tr) position ≡ k
   pub beyond : SameBeyond entry c
-  pub threaded : Threaded tr position c line g
+  pub list-at : ListAt tr position c line g
 
-pub threading-begin : {entry c : List ℕ} {line : Line} (tr : Trace) (n : ℕ) → Begun entry c line → Threading tr n c c line 0 0
+pub listing-begin : {entry c : List ℕ} {line : Line} (tr : Trace) (n : ℕ) → Begun entry c line → Listing tr n c c line 0 0
 unfolding stopsBefore
-threading-begin tr n b = record { position = 0; within = omega arith; counted = refl; beyond = rest-refl 0 _; threaded = b .threaded tr }
+listing-begin tr n b = record { position = 0; within = omega arith; counted = refl; beyond = rest-refl 0 _; list-at = b .list-at tr }
 
 -- The next stop i: the cells are those before it, since the events up to it are passed over.
 pub record AtStop (tr : Trace) (n : ℕ) (c : List ℕ) (line : Line) (g k i : ℕ) : Type 0 where
   pub inside : i < n
   pub one-more : stopsBefore (isStop tr) (suc i) ≡ suc k
-  pub threaded : Threaded tr i c line g
+  pub list-at : ListAt tr i c line g
 
-pub threaded-few : {tr : Trace} {n : ℕ} {c : List ℕ} {line : Line} {g : ℕ} → Threaded tr n c line g → g < SEGMENTS
-threaded-few {tr} {n} t = let now = t .current in omega (arith, segments-few haltOperand tr n _ (line-of haltOperand tr (t .at .run)))
+pub list-few : {tr : Trace} {n : ℕ} {c : List ℕ} {line : Line} {g : ℕ} → ListAt tr n c line g → g < SEGMENTS
+list-few {tr} {n} t = let now = t .current in omega (arith, segments-few haltOperand tr n _ (line-of haltOperand tr (t .at .run)))
 
 module _ {tr : Trace} {n : ℕ} {before entry c : List ℕ} {line : Line} {g k count : ℕ} (first : SameBeyond before entry)
-    (stops : StopsIn tr n before count) (w : Threading tr n entry c line g k) where
-  pub threading-stop : k < count → (i : ℕ) → i ≡ numberIn c k → AtStop tr n c line g k i
-  threading-stop h i read =
+    (stops : StopsIn tr n before count) (w : Listing tr n entry c line g k) where
+  pub listing-stop : k < count → (i : ℕ) → i ≡ numberIn c k → AtStop tr n c line g k i
+  listing-stop h i read =
       let all = stops .counted in
       let now = w .counted in
       let next = next-stop (isStop tr) (w .position) n (omega arith) in
@@ -328,15 +328,15 @@ module _ {tr : Trace} {n : ℕ} {before entry c : List ℕ} {line : Line} {g k c
       let is : i ≡ p =
       read ∙ (w .beyond .same (NUMBER + k) (omega arith) ∙ (first .same (NUMBER + k) (omega arith)
       ∙ (ap (numberIn before) (sym (s .counted ∙ now)) ∙ stops .table p (s .below) (s .stops)))) in
-      rw is (record { inside = s .below; one-more = s .one-more ∙ ap suc now; threaded = passed-over p (s .from) (w .threaded) (s .quiet) })
+      rw is (record { inside = s .below; one-more = s .one-more ∙ ap suc now; list-at = passed-over p (s .from) (w .list-at) (s .quiet) })
 
-  pub threading-finish : count ≤ k → ThreadSays tr n before c n 0
-  threading-finish h =
+  pub listing-finish : count ≤ k → ListSays tr n before c n 0
+  listing-finish h =
       let all = stops .counted in
       let now = w .counted in
       let rises = stops-grow (isStop tr) (w .position) n (w .within) in
       let left = no-stop-left (isStop tr) (w .position) n (omega arith) in
-      let t = passed-over n (w .within) (w .threaded) left in
+      let t = passed-over n (w .within) (w .list-at) left in
       let kept : lineAfter haltOperand tr n ≡ passes _ = line-of haltOperand tr (t .at .run) in
       record {
         beyond = rest-trans first (w .beyond);
@@ -350,19 +350,19 @@ module _ {tr : Trace} {n : ℕ} {before entry c : List ℕ} {line : Line} {g k c
       }
 
   module _ {i : ℕ} (at : AtStop tr n c line g k i) where
-    pub threading-turn : {exit : List ℕ} {row : ℕ} → TakeSays tr i c exit line g row → row ≡ 0 → (line′ : Line) (g′ : ℕ) →
-        line′ ≡ afterIn line (ruleOf (tr .kind i)) → g′ ≡ cond (isAccess (tr .kind i)) g (suc g) → Threading tr n entry exit line′ g′ (k + 1)
-    threading-turn {exit} says none line′ g′ p q =
+    pub listing-turn : {exit : List ℕ} {row : ℕ} → TakeSays tr i c exit line g row → row ≡ 0 → (line′ : Line) (g′ : ℕ) →
+        line′ ≡ afterIn line (ruleOf (tr .kind i)) → g′ ≡ cond (isAccess (tr .kind i)) g (suc g) → Listing tr n entry exit line′ g′ (k + 1)
+    listing-turn {exit} says none line′ g′ p q =
         record {
           position = suc i;
           within = omega (arith, at .inside);
           counted = at .one-more ∙ sym (add-one k);
           beyond = rest-trans (w .beyond) (says .beyond);
-          threaded = rw (p, q) (says .kept none .1);
+          list-at = rw (p, q) (says .kept none .1);
         }
 
-    pub threading-broken : {exit : List ℕ} {row : ℕ} → TakeSays tr i c exit line g row → row ≢ 0 → ThreadSays tr n before exit i row
-    threading-broken says some =
+    pub listing-broken : {exit : List ℕ} {row : ℕ} → TakeSays tr i c exit line g row → row ≢ 0 → ListSays tr n before exit i row
+    listing-broken says some =
         let broken = says .broken some in
         let first-broken = broken .1 in
         record {
@@ -375,7 +375,7 @@ module _ {tr : Trace} {n : ℕ} {before entry c : List ℕ} {line : Line} {g k c
                 none-met = λ z. absurd (some z);
                 met = λ z. (at .inside, first-broken);
               };
-          list = rw (broken .0) (at .threaded .list);
+          list = rw (broken .0) (at .list-at .list);
         }
 
 -- As the loop has it.
@@ -386,8 +386,8 @@ module _ (kinds tasks operands : List ℕ) {c exit : List ℕ} {line : Line} {g 
   taken-movable = says .kept none .0
 
   pub taken-turn : {n k count : ℕ} {before entry : List ℕ} → SameBeyond before entry → StopsIn (traceOf kinds tasks operands) n before count →
-      Threading (traceOf kinds tasks operands) n entry c line g k → AtStop (traceOf kinds tasks operands) n c line g k i → (line′ : Line) (g′ : ℕ) →
+      Listing (traceOf kinds tasks operands) n entry c line g k → AtStop (traceOf kinds tasks operands) n c line g k i → (line′ : Line) (g′ : ℕ) →
       line′ ≡ afterIn line (ruleOf (getD kinds i 0)) → g′ ≡ cond (isAccess (getD kinds i 0)) g (suc g) →
-      Threading (traceOf kinds tasks operands) n entry exit line′ g′ (k + 1)
+      Listing (traceOf kinds tasks operands) n entry exit line′ g′ (k + 1)
   unfolding traceOf
-  taken-turn first stops w at line′ g′ p q = threading-turn first stops w at says none line′ g′ p q
+  taken-turn first stops w at line′ g′ p q = listing-turn first stops w at says none line′ g′ p q
