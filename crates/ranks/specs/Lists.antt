@@ -57,6 +57,7 @@ pub record Readable (c : List ℕ) (line : Line) (kind : ℕ) : Type 0 where
   pub few-left : line .left ≤ TASKS
   pub joins : kind ≡ JOIN → 0 < line .left
 
+-- And what is asked to open the next segment: a cell for it, and for the one that it is put after.
 pub record Openable (c : List ℕ) (line : Line) (kind g : ℕ) : Type 0 where
   pub readable : Readable c line kind
   pub few : g + 1 < SEGMENTS

@@ -64,6 +64,7 @@ pub record RulesSay (tr : Trace) (n events row : ℕ) : Type 0 where
   pub none-met : row ≡ 0 → (events ≡ n) × KeepsRules tr n
   pub met : row ≢ 0 → (events < n) × BreaksFirst tr events row
 
+-- So the rules say, and the cells hold the list of these events' segments.
 pub record ListSays (tr : Trace) (n : ℕ) (entry exit : List ℕ) (events row : ℕ) : Type 0 where
   pub beyond : SameBeyond entry exit
   pub rules : RulesSay tr n events row
@@ -79,6 +80,7 @@ kindsOnly kinds = traceOf kinds [] []
 abbrev pub ownNumber : List ℕ → List ℕ → ℕ → ℕ
 ownNumber kinds c p = getD c (NEXT + segment (kindsOnly kinds) p) 0
 
+-- Each event's cell has its number, and no other cell has changed.
 abbrev pub Spread : List ℕ → ℕ → List ℕ → List ℕ → Type 0
 Spread kinds events entry exit = Filled NUMBER events (ownNumber kinds entry) entry exit
 
