@@ -16,7 +16,7 @@ use Rattle.trace.proofs.Stacks.{updated}
 use Rattle.trace.proofs.Run.{Run, access, lineOf}
 use Rattle.trace.proofs.TwoStacks.{line-of}
 use Rattle.line.specs.declared.Line.{Line}
-use Rattle.line.specs.declared.Rule.the-variants.{Join}
+use Rattle.line.specs.Rules.{Join}
 use Rattle.line.specs.Cells.{runningIn}
 use Rattle.line.specs.Steps.{Stepped, goes, rowed, Movable, rowIn, joinIn, actIn, taskIn, eventIn}
 use Rattle.line.specs.Held.{LineCells, LineAt, SameFree, AccessBy}

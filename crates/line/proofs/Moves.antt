@@ -15,7 +15,7 @@ use Rattle.trace.proofs.Run.{stacks-length}
 use Rattle.cells.specs.Cells.{zeroed, SameBeyond}
 use Rattle.cells.proofs.Zeroed.{zeroed-length, zeroed-below, zeroed-beyond}
 use Rattle.line.specs.declared.Line.{Line}
-use Rattle.line.specs.declared.Rule.the-variants.{Fork, Join, Halt}
+use Rattle.line.specs.Rules.{Fork, Join, Halt}
 use Rattle.line.specs.Cells.{USED, USED-CELLS, NOW-USED, LEFT, ACTIVE, depths, runningIn, nearestIn, isUsedIn, startedIn, forkedIn, haltedIn}
 use Rattle.line.specs.Steps.{afterIn}
 use Rattle.line.specs.Held.{StackAt, LineCells, LineAt, OfLine, Free, SameFree}

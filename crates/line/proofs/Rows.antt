@@ -7,13 +7,11 @@ use mathlib.Core.List.{List}
 use mathlib.Core.Logic.{_≢_}
 use native.Mathlib.Omega.{arith}
 use lib.Dec.{eqb, leb}
-use borrow.Author.Tests.{le-leb, lt-leb, leb-true, leb-false, eq-eqb, ne-eqb}
+use borrow.Author.Tests.{le-leb, lt-leb, eq-eqb, ne-eqb}
 use Rattle.trace.specs.Trace.{HALT, LOCATIONS, isKind, isAccess}
 use Rattle.trace.proofs.Tests.{by-test}
 use Rattle.line.specs.declared.Line.{Line}
-use Rattle.line.specs.declared.Rule.{Rule}
-use Rattle.line.specs.declared.Rule.the-variants.{Access, Fork, Join, Halt, Unknown}
-use Rattle.line.specs.Rules.{ruleOf}
+use Rattle.line.specs.Rules.{Rule, Access, Fork, Join, Halt, Unknown, ruleOf}
 use Rattle.line.specs.Steps.{Stepped, goes, rowed, afterIn, rowIn, locationRow, locationIn, actIn}
 
 -- ---- tests: u is what the code read of v
@@ -71,16 +69,11 @@ pub unknown-told : (c : List ℕ) (line : Line) (a : ℕ) → rowed line 5 c ≡
 unfolding rowed actIn
 unknown-told c line a = refl
 
--- The rule's row, by the rule that a match told, and by the rule that was found.
+-- The row of the rule that the match over the kind chose.
 pub act-told :
-    (c exit : List ℕ) (line : Line) (row : ℕ) (r rule : Rule) (a : ℕ) → r ≡ rule → rowed (afterIn line rule) row exit ≡ actIn c line rule a
-    → rowed (afterIn line r) row exit ≡ actIn c line r a
-act-told c exit line row r rule a e f = rw e f
-
-pub act-found :
     (c exit : List ℕ) (line : Line) (row : ℕ) (r rule : Rule) (a : ℕ) → r ≡ rule → rowed (afterIn line r) row exit ≡ actIn c line r a
     → rowed (afterIn line rule) row exit ≡ actIn c line rule a
-act-found c exit line row r rule a e f = rw e at f
+act-told c exit line row r rule a e f = rw e at f
 
 pub ruleset rows = (row-met, row-passed, row-goes, not-met, not-passed, le-leb, lt-leb, eq-eqb, ne-eqb, read-same, read-other, same-read, other-read)
 
@@ -110,30 +103,12 @@ rule-unknown k h =
     let no : (j : ℕ) → j ≤ 4 → eqb k j ≡ false = λ j i. ne-eqb k j (λ e. omega arith) in
     rw (no 0 (omega arith), no 1 (omega arith), no 2 (omega arith), no 3 (omega arith), no 4 (omega arith))
 
--- 1 for the rule of no kind, else 0.
-abbrev unknown : Rule → ℕ
-unknown Access = 0
-unknown Fork = 0
-unknown Join = 0
-unknown Halt = 0
-unknown Unknown = 1
+-- ---- row 5
 
-unknown-rule : (k : ℕ) → k ≤ HALT → unknown (ruleOf k) ≡ 0
-unfolding ruleOf isAccess
-unknown-rule zero h = refl
-unknown-rule (suc zero) h = refl
-unknown-rule (suc (suc zero)) h = refl
-unknown-rule (suc (suc (suc zero))) h = refl
-unknown-rule (suc (suc (suc (suc zero)))) h = refl
-unknown-rule (suc (suc (suc (suc (suc k))))) h = absurd (omega arith)
-
--- What has the rule `Unknown` is no kind of the document's,
-pub kind-unknown : (r : Rule) (k : ℕ) → r ≡ ruleOf k → r ≡ Unknown → isKind k ≡ false
+pub kind-met : (k : ℕ) → HALT < k → isKind k ≡ false
 unfolding isKind
-kind-unknown r k e f =
-    by-test (isKind k) (λ h. absurd (omega (arith, unknown-rule k (leb-true k HALT h), ap unknown (sym e ∙ f)))) (λ h. h)
+kind-met k h = lt-leb k HALT h
 
--- and what has another rule is one.
-pub kind-known : (r : Rule) (k : ℕ) → r ≡ ruleOf k → r ≢ Unknown → isKind k ≡ true
+pub kind-passed : (k : ℕ) → k ≤ HALT → isKind k ≡ true
 unfolding isKind
-kind-known r k e f = by-test (isKind k) (λ h. h) (λ h. absurd (f (e ∙ sym (rule-unknown k (leb-false k HALT h)))))
+kind-passed k h = le-leb k HALT h

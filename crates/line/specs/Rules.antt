@@ -3,8 +3,14 @@ use Prim.Native.Nat.{ℕ}
 use mathlib.Core.Bool.{cond}
 use lib.Dec.{eqb}
 use Rattle.trace.specs.Trace.{FORK, JOIN, HALT, isAccess}
-use Rattle.line.specs.declared.Rule.{Rule}
-use Rattle.line.specs.declared.Rule.the-variants.{Access, Fork, Join, Halt, Unknown}
+
+-- One for each kind of event, but for reads and writes, of which the rules ask the same; and one for what is no kind.
+pub data Rule : Type 0 where
+  Access : Rule
+  Fork : Rule
+  Join : Rule
+  Halt : Rule
+  Unknown : Rule
 
 -- "Kinds are 0 read, 1 write, 2 fork, 3 join, 4 halt."
 unfoldable pub ruleOf : ℕ → Rule

@@ -7,9 +7,7 @@ use lib.Dec.{eqb, leb}
 use Rattle.trace.specs.Trace.{JOIN, HALT, LOCATIONS, TASKS, isKind}
 use Rattle.trace.specs.Line.{Checked, passes, fails}
 use Rattle.line.specs.declared.Line.{Line}
-use Rattle.line.specs.declared.Rule.{Rule}
-use Rattle.line.specs.declared.Rule.the-variants.{Access, Fork, Join, Halt, Unknown}
-use Rattle.line.specs.Rules.{ruleOf}
+use Rattle.line.specs.Rules.{Rule, Access, Fork, Join, Halt, Unknown, ruleOf}
 use Rattle.line.specs.Cells.{depths, runningIn, nearestIn, isUsedIn, forkedIn, haltedIn}
 
 -- The next line or the row met, and the cells.

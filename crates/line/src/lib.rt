@@ -4,9 +4,8 @@ ghost use mathlib.Core.Path.{_≡_};
 ghost use Prim.Native.Nat.{_+_, _-_, _≤_, _<_};
 ghost use lib.ListN.{length};
 ghost use Rattle.trace.specs.Trace.{TASKS, WORKSPACE-CELLS};
-ghost use Rattle.line.specs.Rules.{ruleOf};
+ghost use Rattle.line.specs.Rules.{Fork, Join, Halt, ruleOf};
 ghost use Rattle.line.specs.Cells.{depths, runningIn, nearestIn, startedIn, forkedIn, haltedIn};
-ghost use Rattle.line.specs.declared.Rule.the-variants.{Fork, Join, Halt};
 ghost use Rattle.line.specs.Steps.{afterIn, Movable, rowed, locationRow, forkIn, joinIn, haltIn, actIn, eventIn};
 ghost use Rattle.line.specs.Held.{Sound};
 use trace::FORK;
@@ -85,28 +84,6 @@ fn halt(ws: &mut [u16], line: Line)
     ws[LEFT + line.left] = x;
 }
 
-// The rules, one for each kind of event.
-pub enum Rule {
-    Access,
-    Fork,
-    Join,
-    Halt,
-    Unknown,
-}
-
-// "Kinds are 0 read, 1 write, 2 fork, 3 join, 4 halt."
-fn rule_of(kind: u8) -> Rule
-    ensures { λ r. ⌜ r ≡ ruleOf kind ⌝ }
-{
-    match kind {
-        0 | 1 => Rule::Access,
-        2 => Rule::Fork,
-        3 => Rule::Join,
-        4 => Rule::Halt,
-        5..=255 => Rule::Unknown,
-    }
-}
-
 // The functions below answer the row that is met, or 0: a plain number, which comes back in a register. A line that came back through memory, field by
 // field, would be waited for at every event.
 
@@ -162,18 +139,19 @@ fn halt_row(ws: &mut [u16], line: Line, operand: u16) -> usize
     0
 }
 
-// The one row for the event's kind.
-fn act(ws: &mut [u16], line: Line, rule: Rule, operand: u16) -> usize
+// "Kinds are 0 read, 1 write, 2 fork, 3 join, 4 halt": the one row for the event's kind. The match calls the rule's function itself: by way of
+// a value for the rule, which is matched again, it compiles to a jump table, and random traces take a seventh longer.
+fn act(ws: &mut [u16], line: Line, kind: u8, operand: u16) -> usize
     requires { ⌜ Sound (now ws) line ⌝ }
     requires { ⌜ 0 < line .active ⌝ }
-    ensures { λ r. ⌜ rowed (afterIn line rule) r (now (ws .exit)) ≡ actIn (now (ws .entry)) line rule operand ⌝ }
+    ensures { λ r. ⌜ rowed (afterIn line (ruleOf kind)) r (now (ws .exit)) ≡ actIn (now (ws .entry)) line (ruleOf kind) operand ⌝ }
 {
-    match rule {
-        Rule::Access => location_row(operand),
-        Rule::Fork => fork_row(ws, line, operand),
-        Rule::Join => join_row(ws, line, operand),
-        Rule::Halt => halt_row(ws, line, operand),
-        Rule::Unknown => 5,
+    match kind {
+        0 | 1 => location_row(operand),
+        2 => fork_row(ws, line, operand),
+        3 => join_row(ws, line, operand),
+        4 => halt_row(ws, line, operand),
+        5..=255 => 5,
     }
 }
 
@@ -182,8 +160,7 @@ pub fn event(ws: &mut [u16], line: Line, kind: u8, task: u16, operand: u16) -> u
     requires { ⌜ Sound (now ws) line ⌝ }
     ensures { λ r. ⌜ rowed (afterIn line (ruleOf kind)) r (now (ws .exit)) ≡ eventIn (now (ws .entry)) line kind task operand ⌝ }
 {
-    let rule = rule_of(kind);
-    if let Rule::Unknown = rule {
+    if HALT < kind {
         return 5;
     }
     if line.active == 0 {
@@ -192,7 +169,7 @@ pub fn event(ws: &mut [u16], line: Line, kind: u8, task: u16, operand: u16) -> u
     if task != running(ws, line) {
         return 7;
     }
-    act(ws, line, rule, operand)
+    act(ws, line, kind, operand)
 }
 
 // The line after an event of this kind that met no row.
