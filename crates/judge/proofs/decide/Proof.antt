@@ -47,8 +47,10 @@ returns c =
     let ranked = scanned .before .before .before .before in
     let start = ranked .before .before .before .before .before .before .before .before in
     let found = scanned .first-race .ensures in
+    let decided =
     decided-race (start .pre .0) (ranked .rank .ensures .0) (found .0) (found .1) (spread .before .before .if1 .taken) (spread .spread .ensures)
-    (reported .report .result) (reported .report .ensures)
+    (reported .report .result) (reported .report .ensures) in
+    record { rest = decided .rest; answer = decided .answer; first = decided .first; second = decided .second }
 
 refused : tie.Need-returns-2
 refused c =
