@@ -13,6 +13,7 @@ use std::process::Command;
 const TWO_ORDERS: &str = "src/twoorders.c";
 const UNION_FIND: &str = "src/unionfind.c";
 const FLOOR: &str = "src/floor.c";
+const SHARED: &str = "src/peer.h";
 const INCLUDE: &str = "../include";
 const HEADER: &str = "../include/racejudge.h";
 
@@ -21,7 +22,7 @@ fn main() {
     if env::var_os("CARGO_FEATURE_LINKED").is_none() {
         return;
     }
-    for file in [TWO_ORDERS, UNION_FIND, FLOOR, HEADER] {
+    for file in [TWO_ORDERS, UNION_FIND, FLOOR, SHARED, HEADER] {
         println!("cargo:rerun-if-changed={file}");
     }
     println!("cargo:rerun-if-env-changed=RACEJUDGE_LIB");

@@ -19,27 +19,7 @@
  *
  * Compiled more than once, under the names NAME_judge and NAME_ordering. */
 
-#include <stddef.h>
-#include <stdint.h>
-#include <string.h>
-
-#include "racejudge.h"
-
-#define GLUED(name, call) name##_##call
-#define EXPORTED(name, call) GLUED(name, call)
-
-/* Whatever the name, the compiler holds the calls to the prototypes of racejudge.h. */
-__typeof__(racejudge_judge) EXPORTED(NAME, judge);
-__typeof__(racejudge_ordering) EXPORTED(NAME, ordering);
-
-enum {
-    READ = RACEJUDGE_READ,
-    WRITE = RACEJUDGE_WRITE,
-    FORK = RACEJUDGE_FORK,
-    JOIN = RACEJUDGE_JOIN,
-    HALT = RACEJUDGE_HALT
-};
-enum { TASKS = 1024, LOCATIONS = 1024, WORKSPACE = RACEJUDGE_WORKSPACE };
+#include "peer.h"
 
 /* Tables in the workspace. */
 enum {
@@ -62,17 +42,9 @@ enum { NOBODY = 0xffff };
  * that are written together. */
 enum { BLOCK = 128, ROW = 8, CHUNK = 16 };
 
-#define UNLIKELY(c) __builtin_expect(!!(c), 0)
-
 /* The compiler takes x for unknown from here on: it makes no branch of the choice that led to x or
  * follows from it. */
 #define HIDE(x) __asm__("" : "+r"(x))
-
-typedef struct {
-    const uint8_t *kinds;
-    const uint16_t *tasks, *operands;
-    size_t n;
-} Trace;
 
 /* An event, and its segment. */
 typedef struct {
@@ -375,25 +347,6 @@ __attribute__((noinline)) static size_t report(Trace trace, const uint16_t *ws, 
     second[in_d] = t;
     second[in_d + 1] = s;
     return s;
-}
-
-/* Rows 1 to 3, or 0. */
-static uint64_t size_row(size_t n, size_t tasks_len, size_t operands_len, size_t ws_len)
-{
-    if (tasks_len != n || operands_len != n)
-        return 1;
-    if (n > RACEJUDGE_MAX_EVENTS)
-        return 2;
-    if (ws_len < WORKSPACE + n)
-        return 3;
-    return 0;
-}
-
-static inline uint64_t say(uint64_t *values, uint64_t code, uint64_t a, uint64_t b)
-{
-    values[0] = a;
-    values[1] = b;
-    return code;
 }
 
 /* A race among the events that keep the rules decides; if there is none, a broken rule. */

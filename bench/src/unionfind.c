@@ -14,27 +14,7 @@
  *
  * Compiled under the names NAME_judge and NAME_ordering. */
 
-#include <stddef.h>
-#include <stdint.h>
-#include <string.h>
-
-#include "racejudge.h"
-
-#define GLUED(name, call) name##_##call
-#define EXPORTED(name, call) GLUED(name, call)
-
-/* Whatever the name, the compiler holds the calls to the prototypes of racejudge.h. */
-__typeof__(racejudge_judge) EXPORTED(NAME, judge);
-__typeof__(racejudge_ordering) EXPORTED(NAME, ordering);
-
-enum {
-    READ = RACEJUDGE_READ,
-    WRITE = RACEJUDGE_WRITE,
-    FORK = RACEJUDGE_FORK,
-    JOIN = RACEJUDGE_JOIN,
-    HALT = RACEJUDGE_HALT
-};
-enum { TASKS = 1024, LOCATIONS = 1024, WORKSPACE = RACEJUDGE_WORKSPACE };
+#include "peer.h"
 
 /* Tables in the workspace. */
 enum {
@@ -49,15 +29,6 @@ enum {
     LIVE_S = 9216  /* the same before s */
 };
 enum { IN_LEFT = 0xffff };
-
-#define LIKELY(c) __builtin_expect(!!(c), 1)
-#define UNLIKELY(c) __builtin_expect(!!(c), 0)
-
-typedef struct {
-    const uint8_t *kinds;
-    const uint16_t *tasks, *operands;
-    size_t n;
-} Trace;
 
 /* The depths of the two stacks. */
 typedef struct {
@@ -276,25 +247,6 @@ static inline size_t accesses(Trace trace, uint16_t *ws, uint32_t x, uint32_t to
         put_pair(ws, l, (both & keep) | (top_twice & ~keep));
     }
     return i;
-}
-
-/* Rows 1 to 3, or 0. */
-static uint64_t size_row(size_t n, size_t tasks_len, size_t operands_len, size_t ws_len)
-{
-    if (tasks_len != n || operands_len != n)
-        return 1;
-    if (n > RACEJUDGE_MAX_EVENTS)
-        return 2;
-    if (ws_len < WORKSPACE + n)
-        return 3;
-    return 0;
-}
-
-static inline uint64_t say(uint64_t *values, uint64_t code, uint64_t a, uint64_t b)
-{
-    values[0] = a;
-    values[1] = b;
-    return code;
 }
 
 /* All events, up to the first that breaks a rule or races. */

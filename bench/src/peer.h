@@ -1,0 +1,57 @@
+/* What the judges in C share: the names of the calls, a trace, the size checks, and how an answer is
+ * handed back. */
+
+#ifndef PEER_H
+#define PEER_H
+
+#include <stddef.h>
+#include <stdint.h>
+#include <string.h>
+
+#include "racejudge.h"
+
+#define GLUED(name, call) name##_##call
+#define EXPORTED(name, call) GLUED(name, call)
+
+/* Whatever the name, the compiler holds the calls to the prototypes of racejudge.h. */
+__typeof__(racejudge_judge) EXPORTED(NAME, judge);
+__typeof__(racejudge_ordering) EXPORTED(NAME, ordering);
+
+enum {
+    READ = RACEJUDGE_READ,
+    WRITE = RACEJUDGE_WRITE,
+    FORK = RACEJUDGE_FORK,
+    JOIN = RACEJUDGE_JOIN,
+    HALT = RACEJUDGE_HALT
+};
+enum { TASKS = 1024, LOCATIONS = 1024, WORKSPACE = RACEJUDGE_WORKSPACE };
+
+#define LIKELY(c) __builtin_expect(!!(c), 1)
+#define UNLIKELY(c) __builtin_expect(!!(c), 0)
+
+typedef struct {
+    const uint8_t *kinds;
+    const uint16_t *tasks, *operands;
+    size_t n;
+} Trace;
+
+/* Rows 1 to 3, or 0. */
+static uint64_t size_row(size_t n, size_t tasks_len, size_t operands_len, size_t ws_len)
+{
+    if (tasks_len != n || operands_len != n)
+        return 1;
+    if (n > RACEJUDGE_MAX_EVENTS)
+        return 2;
+    if (ws_len < WORKSPACE + n)
+        return 3;
+    return 0;
+}
+
+static inline uint64_t say(uint64_t *values, uint64_t code, uint64_t a, uint64_t b)
+{
+    values[0] = a;
+    values[1] = b;
+    return code;
+}
+
+#endif
