@@ -1,4 +1,5 @@
 /* The fork-join race judge: a trace of one run of a fork-join program, judged for data races.
+ * Three calls: racejudge_translate (text to a trace), racejudge_judge, racejudge_ordering.
  *
  * Link libcapi.a, which `rt staticlib capi` writes, for x86-64 Linux. It needs only memset of the C
  * library. Every call takes any contents and any lengths: nothing is required of the numbers in the
@@ -31,7 +32,8 @@
  * are 0 and the rest is unchanged.
  *
  * A REFUSAL has the number of the first condition that holds, and a position: that of the event for
- * 5 to 12, else 0. The checks go 1 to 4; then for each event 5, 6, 7 and the one for its kind; 13 last.
+ * 5 to 12, that of the line for 14 and 15, else 0. The checks go 1 to 4; then for each event 5, 6, 7
+ * and the one for its kind; 13 last. Rows 14 and 15 are the translation's, and are all that it has.
  *    1  the three slices differ in length
  *    2  more than 32,768 events
  *    3  the workspace is too short
@@ -45,6 +47,17 @@
  *   11  the joined task is not the left neighbour of the actor
  *   12  the operand of the halt is not 0
  *   13  p or q is not below the number of events (the ordering call only)
+ *   14  a line, counted from 0, is not of the text form
+ *   15  with that line, counted from 0, the text makes more than 2,048 events
+ *
+ * A TEXT has one event a line, each line ended by a line feed:
+ *   Ta|r(Vb)|c      task a reads location b
+ *   Ta|w(Vb)|c      task a writes location b
+ *   Ta|fork(Tb)|c   task a forks task b
+ *   Ta|join(Tb)|c   task a joins task b
+ * Numbers are decimal, 0 to 65,535, with no leading zero; c is a source line and is not used. Nothing
+ * else is taken: no blank, no carriage return, no empty line. Halts have no lines: where a paused task
+ * acts again, the halts of the tasks above it come first. The first 53,274 bytes of a text decide.
  */
 #ifndef RACEJUDGE_H
 #define RACEJUDGE_H
@@ -62,13 +75,19 @@ enum { RACEJUDGE_READ, RACEJUDGE_WRITE, RACEJUDGE_FORK, RACEJUDGE_JOIN, RACEJUDG
 #define RACEJUDGE_MAX_EVENTS 32768
 #define RACEJUDGE_WORKSPACE 12288
 
+/* The most events that a text makes, and the cells that each slice has which one is translated to. */
+#define RACEJUDGE_TEXT_EVENTS 2048
+
 /* What racejudge_judge returns. */
 enum { RACEJUDGE_CLEAN = 0, RACEJUDGE_RACE = 1 };
 
 /* What racejudge_ordering returns. */
 enum { RACEJUDGE_NO = 0, RACEJUDGE_YES = 1 };
 
-/* What both return for a refusal. */
+/* What racejudge_translate returns. */
+enum { RACEJUDGE_TRANSLATED = 0, RACEJUDGE_SHORT = 3 };
+
+/* What all three return for a refusal. */
 enum { RACEJUDGE_REFUSED = 2 };
 
 /* Judges the whole trace. Returns, and stores in values[0] and values[1]:
@@ -97,6 +116,17 @@ uint64_t racejudge_ordering(const uint8_t *kinds, size_t kinds_len, const uint16
                             size_t tasks_len, const uint16_t *operands, size_t operands_len,
                             uint16_t *workspace, size_t workspace_len, size_t p, size_t q,
                             uint64_t values[2]);
+
+/* Translates a text to a trace. Returns, and stores in values[0] and values[1]:
+ *   RACEJUDGE_TRANSLATED   n, 0             the n events stand at the start of the three slices
+ *   RACEJUDGE_REFUSED      number, line     number is 14 or 15
+ *   RACEJUDGE_SHORT        0, 0             a slice has fewer than RACEJUDGE_TEXT_EVENTS cells. This is
+ *                                           asked first: whatever the text, it is not looked at
+ * The cells past the events are unchanged, and all cells after the other two answers. No trace that
+ * keeps the rules is promised: racejudge_judge says whether this one does. */
+uint64_t racejudge_translate(const uint8_t *text, size_t text_len, uint8_t *kinds, size_t kinds_len,
+                             uint16_t *tasks, size_t tasks_len, uint16_t *operands,
+                             size_t operands_len, uint64_t values[2]);
 
 #ifdef __cplusplus
 }

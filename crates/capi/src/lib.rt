@@ -1,8 +1,13 @@
-// The C interface: the judge of a whole trace and the ordering call, for C and Rust programs to link. Each slice is a pointer and a length there. A call
-// returns a code and stores two values; `specs/Codes.antt` says which, and `include/racejudge.h` has the prototypes.
+// The C interface: the judge of a whole trace, the ordering call and the translation of a text, for C and Rust programs to link. Each slice is a pointer and a
+// length there. A call returns a code and stores two values; `specs/Codes.antt` says which, and `include/racejudge.h` has the prototypes.
+mod translation;
+
 ghost use mathlib.Core.Path.{_≡_};
 ghost use Rattle.trace.specs.Outcome.{judgeOutcome, orderingOutcome};
-ghost use Rattle.capi.specs.Codes.{judgeCall, judgeSeen, orderingCall, orderingSeen};
+ghost use Rattle.trace.specs.Slices.{slices};
+ghost use Rattle.capi.specs.Codes.{judgeCall, judgeSeen, orderingCall, orderingSeen, translateCall, translateSeen, TranslateTells};
+use text::Translation;
+use text::limits::MAX_TEXT_EVENTS;
 use trace::Answer;
 use trace::Ordering;
 
@@ -16,7 +21,12 @@ const NO: u64 = 0;
 
 const YES: u64 = 1;
 
-// What both return where the trace is turned back.
+// What the translation returns where the text makes a trace, and where a slice has too few cells for every text.
+const TRANSLATED: u64 = 0;
+
+const SHORT: u64 = 3;
+
+// What all return where the trace, or the text, is turned back.
 const REFUSED: u64 = 2;
 
 // The judge of a whole trace.
@@ -76,6 +86,54 @@ pub extern "C" fn racejudge_ordering(
             YES
         }
         Ordering::Refused(refusal) => {
+            *values = [refusal.number as u64, refusal.position as u64];
+            REFUSED
+        }
+    }
+}
+
+// Text to a trace. The text is translated to spare slices, and what they hold then copied: the lent ones may have more cells than it takes.
+#[no_mangle]
+pub extern "C" fn racejudge_translate(
+    text: &[u8],
+    kinds: &mut [u8],
+    tasks: &mut [u16],
+    operands: &mut [u16],
+    values: &mut [u64; 2],
+) -> u64
+    ensures outcome { λ r. ⌜ translateSeen r (now (values .exit)) (slices (now (kinds .exit)) (now (tasks .exit)) (now (operands .exit)))
+        ≡ translateCall (now (text .entry)) (slices (now (kinds .entry)) (now (tasks .entry)) (now (operands .entry))) ⌝ }
+    ensures form { λ r. ⌜ TranslateTells (now (text .entry)) (slices (now (kinds .entry)) (now (tasks .entry)) (now (operands .entry)))
+        (translateSeen r (now (values .exit)) (slices (now (kinds .exit)) (now (tasks .exit)) (now (operands .exit)))) ⌝ }
+{
+    if translation::is_short(kinds.len(), tasks.len(), operands.len()) {
+        *values = [0, 0];
+        return SHORT;
+    }
+    let mut spare_kinds = [0u8; MAX_TEXT_EVENTS];
+    let mut spare_tasks = [0u16; MAX_TEXT_EVENTS];
+    let mut spare_operands = [0u16; MAX_TEXT_EVENTS];
+    let translation = text::translate(
+        text,
+        &mut spare_kinds,
+        &mut spare_tasks,
+        &mut spare_operands,
+    );
+    match translation {
+        Translation::Events(count) => {
+            translation::copy_events(
+                &spare_kinds,
+                &spare_tasks,
+                &spare_operands,
+                kinds,
+                tasks,
+                operands,
+                count,
+            );
+            *values = [count as u64, 0];
+            TRANSLATED
+        }
+        Translation::Refused(refusal) => {
             *values = [refusal.number as u64, refusal.position as u64];
             REFUSED
         }

@@ -5,3 +5,4 @@ pub mod Scans
 pub mod ImpliedHalts
 pub mod LineEvents
 pub mod Translating
+pub mod Stored

@@ -3,44 +3,40 @@
 use borrow.Author.Needs.{needs}
 use lib.Seq.{length-take-le}
 use mathlib.Core.Path.{sym}
-use Rattle.answer.proofs.Answering.{fresh-sized, room-kinds, room-tasks, room-operands, answer-events, answer-refusal, answered-within, answered-decided}
+use Rattle.text.proofs.Stored.{fresh-sized, stored, said-refusal}
+use Rattle.answer.proofs.Answering.{answer-events, answer-refusal, answered-within, answered-decided}
 use Rattle.answer.proofs.answer.Statement.{statement}
 use Rattle.answer.proofs.answer.Tie as tie
 
 array-share-prefix-kinds : tie.Need-array-share-prefix-kinds
 array-share-prefix-kinds c =
     let matched = c .before in
-    let translated = matched .before .before in
-    room-kinds _ _ fresh-sized _ _ _ _ (translated .translate .ensures .0) _ (matched .translation .given .1)
+    stored _ _ fresh-sized _ _ _ _ (matched .before .before .translate .ensures .0) _ (matched .translation .given .1) .room .kinds
 
 array-share-prefix-tasks : tie.Need-array-share-prefix-tasks
 array-share-prefix-tasks c =
     let matched = c .before .before in
-    let translated = matched .before .before in
-    room-tasks _ _ fresh-sized _ _ _ _ (translated .translate .ensures .0) _ (matched .translation .given .1)
+    stored _ _ fresh-sized _ _ _ _ (matched .before .before .translate .ensures .0) _ (matched .translation .given .1) .room .tasks
 
 array-share-prefix-operands : tie.Need-array-share-prefix-operands
 array-share-prefix-operands c =
     let matched = c .before .before .before in
-    let translated = matched .before .before in
-    room-operands _ _ fresh-sized _ _ _ _ (translated .translate .ensures .0) _ (matched .translation .given .1)
+    stored _ _ fresh-sized _ _ _ _ (matched .before .before .translate .ensures .0) _ (matched .translation .given .1) .room .operands
 
 returns : tie.Need-returns
 returns c =
     let answering = c .before .before in
     let matched = answering .before .before .before .before .before .before in
-    let translated = matched .before .before in
-    let e =
-    answer-events _ _ fresh-sized _ _ _ _ (translated .translate .ensures .0) _ (matched .translation .given .1) _ _ (answering .answer-events .ensures) in
+    let held = stored _ _ fresh-sized _ _ _ _ (matched .before .before .translate .ensures .0) _ (matched .translation .given .1) in
+    let e = answer-events held _ _ (answering .answer-events .ensures) in
     (e, (answered-within _ _ _ _ e, answered-decided _ _ _ e))
 
 returns-2 : tie.Need-returns-2
 returns-2 c =
     let answering = c .before .before in
     let matched = answering .before .before .before in
-    let translated = matched .before .before in
-    let e =
-    answer-refusal _ _ fresh-sized _ _ _ _ (translated .translate .ensures .0) _ (matched .translation2 .given .1) _ _ (answering .answer-refusal .ensures) in
+    let refused = said-refusal _ _ fresh-sized _ _ _ _ (matched .before .before .translate .ensures .0) _ (matched .translation2 .given .1) in
+    let e = answer-refusal _ refused _ _ (answering .answer-refusal .ensures) in
     (e, (answered-within _ _ _ _ e, answered-decided _ _ _ e))
 
 pub answer-spec : {M : Type 1} → statement M
