@@ -3,8 +3,8 @@
 use Prim.Native.Nat.{ℕ, _<_, _≤_}
 use native.Mathlib.Nat.{zero-add}
 use native.Mathlib.Omega.{arith}
-use mathlib.Core.Path.{_≡_, sym, _∙_}
-use mathlib.Core.Bool.{Bool, true, false, _||_}
+use mathlib.Core.Path.{_≡_, sym, ap, _∙_}
+use mathlib.Core.Bool.{Bool, true, false, _||_, true≢false}
 use mathlib.Core.Logic.{inl, inr}
 use mathlib.Core.List.{List, [], _∷_, _++_, map}
 use lib.Dec.{ltb}
@@ -18,7 +18,7 @@ use Rattle.trace.proofs.Tests.{by-test, Tests, tests-fails, test-lt, test-or}
 use Rattle.form.specs.Decided.{MAX-TEXT-EVENTS}
 use Rattle.form.specs.Translation.{translation, translated}
 use Rattle.form.proofs.Accepted.{translation-at-most}
-use Rattle.form.proofs.TextForm.{translated-decided}
+use Rattle.form.proofs.TextForm.{translated-decided, decided-by-unique}
 use Rattle.text.proofs.Stored.{Stored}
 use Rattle.capi.specs.Codes.{translationTold, translationCall, isShort, shortCall, translateCall, translateSeen, TranslateCall, TranslateTells, short, decides}
 use Rattle.capi.specs.Codes.{copied}
@@ -29,6 +29,13 @@ pub with-meaning : (text : List ℕ) (b : Slices) {call : TranslateCall} → cal
 unfolding translateCall
 with-meaning text b {call} e =
     (e, by-test (isShort b) (λ s. short s (e ∙ rw s)) (λ s. decides s (translated text b) (translated-decided text b) (e ∙ rw s)))
+
+-- A text and three slices decide one call and no other.
+pub translate-tells-unique : {text : List ℕ} {b : Slices} {one two : TranslateCall} → TranslateTells text b one → TranslateTells text b two → one ≡ two
+translate-tells-unique (short s e) (short s′ e′) = e ∙ sym e′
+translate-tells-unique (short s e) (decides s′ o d e′) = absurd (true≢false (sym s ∙ s′))
+translate-tells-unique (decides s o d e) (short s′ e′) = absurd (true≢false (sym s′ ∙ s))
+translate-tells-unique (decides s o d e) (decides s′ o′ d′ e′) = e ∙ (ap translationCall (decided-by-unique d d′) ∙ sym e′)
 
 module _ (text : List ℕ) (b : Slices) where
   pub told-short : isShort b ≡ true → translateSeen 3 (0 ∷ 0 ∷ []) b ≡ translateCall text b

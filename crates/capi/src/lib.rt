@@ -92,7 +92,7 @@ pub extern "C" fn racejudge_ordering(
     }
 }
 
-// Text to a trace. The text is translated to spare slices, and what they hold then copied: the lent ones may have more cells than it takes.
+// Text to a trace. The text is translated to spare slices first, since `translate` takes them of one size, and the lent ones may have more cells.
 #[no_mangle]
 pub extern "C" fn racejudge_translate(
     text: &[u8],
