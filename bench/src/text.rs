@@ -4,7 +4,7 @@ use crate::ancestors::Ancestors;
 use crate::trace::*;
 
 /// The most events that a text may make.
-const MAX_TEXT_EVENTS: usize = 2_048;
+pub const MAX_TEXT_EVENTS: usize = 2_048;
 
 /// The longest line, `T65535|fork(T65535)|65535` and its line feed.
 const LINE_BYTES: usize = 26;
@@ -51,14 +51,14 @@ impl Rest<'_> {
 }
 
 /// The whole text as a trace, or the refusal: 14 or 15 and the line's number from 0.
-fn translate(text: &[u8]) -> Result<Trace, Answer> {
+pub fn translate(text: &[u8]) -> Result<Trace, (usize, usize)> {
     let mut rest = Rest(text);
     let mut trace = Trace::default();
     let mut stack: Vec<u16> = vec![0];
     let mut number = 0;
     while !rest.0.is_empty() {
         let Some((task, kind, operand)) = rest.line() else {
-            return Err(Answer::Refused(14, number));
+            return Err((14, number));
         };
         if let Some(place) = stack.iter().rposition(|&t| t == task) {
             for halted in stack.drain(place + 1..).rev() {
@@ -70,7 +70,7 @@ fn translate(text: &[u8]) -> Result<Trace, Answer> {
             stack.push(operand);
         }
         if trace.len() > MAX_TEXT_EVENTS {
-            return Err(Answer::Refused(15, number));
+            return Err((15, number));
         }
         number += 1;
     }
@@ -95,7 +95,7 @@ fn output(said: Answer, events: usize, orders: Option<(Vec<u16>, Vec<u16>)>) -> 
 /// The whole output for a text, as the slow judge has it.
 pub fn answer(text: &[u8]) -> String {
     match translate(text) {
-        Err(refused) => output(refused, 0, None),
+        Err((number, line)) => output(Answer::Refused(number, line), 0, None),
         Ok(trace) => {
             let n = trace.len();
             let outcome = Ancestors::default().judge(&trace, WORKSPACE + n, n, n);

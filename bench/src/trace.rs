@@ -19,7 +19,7 @@ pub const WORKSPACE: usize = 12_288;
 pub type Event = (u16, u8, u16);
 
 /// Three slices; entry p of each makes event p. Their lengths may differ, which is refusal 1.
-#[derive(Clone, Default, PartialEq)]
+#[derive(Clone, Debug, Default, PartialEq)]
 pub struct Trace {
     pub kinds: Vec<u8>,
     pub tasks: Vec<u16>,
@@ -105,4 +105,15 @@ pub enum Ordering {
     Yes,
     /// The number and the position.
     Refused(usize, usize),
+}
+
+/// What comes of a text.
+#[derive(Clone, Copy, Debug, PartialEq, Eq)]
+pub enum Translation {
+    /// The number of events.
+    Events(usize),
+    /// The number and the line.
+    Refused(usize, usize),
+    /// A lent slice has too few cells for some texts.
+    Short,
 }

@@ -11,7 +11,7 @@ pub struct Bench {
 }
 
 pub fn bench(given: Vec<String>) -> Bench {
-    let usage = "bench/run [--standin] [--rounds N] [--traces N] [--no-matrix]";
+    let usage = "bench/run [--rounds N] [--traces N] [--no-matrix]";
     let mut words = Words::new(usage, given);
     let (rounds, traces) = (words.number("--rounds", 60), words.number("--traces", 6));
     let matrix = !words.has("--no-matrix");
@@ -25,7 +25,7 @@ pub struct Test {
 }
 
 pub fn test(given: Vec<String>) -> Test {
-    let mut words = Words::new("bench/test [--standin] [--seed N] [--times N]", given);
+    let mut words = Words::new("bench/test [--seed N] [--times N]", given);
     let (seed, times) = (words.number("--seed", 1), words.number("--times", 1));
     words.end();
     Test { seed, times }

@@ -10,6 +10,6 @@ fn main() {
     match given.next().as_deref() {
         Some("bench") => _ = words::bench(given.collect()),
         Some("test") => _ = words::test(given.collect()),
-        _ => trouble("usage: bench/start bench|test [--standin] [WORDS..]"),
+        _ => trouble("usage: bench/start bench|test [WORDS..]"),
     }
 }

@@ -114,7 +114,8 @@ fn ratios<'a>(call: &str, peer: Peer, rows: impl Iterator<Item = (&'a Row, f64)>
     let mut rows: Vec<(&Row, f64)> = rows.collect();
     let part = |&(row, target): &(&Row, f64)| row.ratio(peer) / target;
     rows.sort_by(|a, b| part(b).total_cmp(&part(a)));
-    let missed = rows.iter().filter(|row| !(part(row) <= 1.0)).count();
+    let met = |row: &&(&Row, f64)| part(row) <= 1.0;
+    let missed = rows.len() - rows.iter().filter(met).count();
     let shown = rows[..missed.max(1)]
         .iter()
         .map(|(row, target)| format!("{:.3} of {target} ({})", row.ratio(peer), row.label()));

@@ -1,6 +1,7 @@
 //! One call of each linked judge held against the slow judge: the answer, the workspace and both
 //! order buffers whole, the cells around them, the trace. Counts what was met.
 
+use crate::buffer::{dirt, Buffer};
 use crate::watch::watched;
 use racejudge_bench::ancestors::{Ancestors, Outcome};
 use racejudge_bench::extent::{Extent, LIMITS};
@@ -13,9 +14,6 @@ use std::fmt::{Debug, Display};
 use std::sync::Arc;
 
 pub const JUDGES: [&Judge; 3] = [&PROVED, &TWO_ORDERS, &UNION_FIND];
-
-/// Cells on either side of each lent slice that must stay as they are.
-const GUARD: usize = 16;
 
 /// The last row that a call over a trace can give.
 const LAST_ROW: usize = 13;
@@ -41,46 +39,6 @@ impl Counts {
         let mut rows = (1..=LAST_ROW).filter(|&row| row != never && self.rows[row] == 0);
         rows.next().map(|row| format!("refused {row}"))
     }
-}
-
-/// Cells with any content, of which those between the guards are lent.
-struct Buffer {
-    cells: Vec<u16>,
-    before: Vec<u16>,
-}
-
-impl Buffer {
-    fn lend(&mut self) -> &mut [u16] {
-        let end = self.cells.len() - GUARD;
-        &mut self.cells[GUARD..end]
-    }
-
-    /// The first cell that is wrong: the lent ones must begin with `start`, all others be as they
-    /// were.
-    fn difference(&self, start: &[u16]) -> Option<String> {
-        let (cells, before) = (&self.cells, &self.before);
-        let (from, to) = (GUARD, GUARD + start.len());
-        if cells[from..to] == *start
-            && cells[..from] == before[..from]
-            && cells[to..] == before[to..]
-        {
-            return None;
-        }
-        let wanted = [&before[..from], start, &before[to..]].concat();
-        let at = (0..wanted.len()).find(|&at| cells[at] != wanted[at])?;
-        let place = at as isize - GUARD as isize;
-        Some(format!("cell {place} is {}, wanted {}", cells[at], wanted[at]))
-    }
-}
-
-/// What buffers hold before a call: zeros, ones in every bit, what looks like tasks, anything.
-fn dirt(rng: &mut Rng) -> Vec<u16> {
-    let length = WORKSPACE + MAX_EVENTS + 2 * GUARD;
-    let mut cells = vec![0; length];
-    cells.resize(2 * length, u16::MAX);
-    cells.extend((0..length).map(|_| rng.cell(TASKS)));
-    cells.extend((0..2 * length).map(|_| rng.cell(65_536)));
-    cells
 }
 
 pub struct Test {
@@ -109,11 +67,8 @@ impl Test {
         }
     }
 
-    fn buffer(&mut self, lent: usize) -> Buffer {
-        let whole = lent + 2 * GUARD;
-        let from = self.rng.below(self.dirt.len() - whole + 1);
-        let before = self.dirt[from..from + whole].to_vec();
-        Buffer { cells: before.clone(), before }
+    fn buffer(&mut self, lent: usize) -> Buffer<u16> {
+        Buffer::drawn(&self.dirt, &mut self.rng, lent)
     }
 
     /// The judge on a trace, with slices as long as needed or a little longer.
@@ -159,7 +114,8 @@ impl Test {
         let (call, copy) = (format!("{}, judge", judge.name), Arc::new(trace.clone()));
         let mut w = self.buffer(workspace);
         let (mut f, mut s) = (self.buffer(first), self.buffer(second));
-        let told = watched(&call, &copy, || judge.judge(&copy, w.lend(), f.lend(), s.lend()));
+        let told =
+            watched(&call, copy.clone(), || judge.judge(&copy, w.lend(), f.lend(), s.lend()));
         let (first_order, second_order) = wanted.orders.clone().unwrap_or_default();
         let differences = [
             ("answer", answer_difference(told, wanted.said)),
@@ -224,7 +180,7 @@ impl Test {
         let call = format!("{}, ordering {p} {q}", judge.name);
         let copy = Arc::new(trace.clone());
         let mut w = self.buffer(workspace);
-        let told = watched(&call, &copy, || judge.ordering(&copy, w.lend(), p, q));
+        let told = watched(&call, copy.clone(), || judge.ordering(&copy, w.lend(), p, q));
         let differences = [
             ("answer", answer_difference(told, wanted.said)),
             ("trace", trace_difference(&copy, trace)),
@@ -287,17 +243,18 @@ impl Test {
         judged.or(ordered).or(limits)
     }
 
-    pub fn closing_line(&self) -> String {
+    pub fn closing_line(&self, translated: usize) -> String {
         let (judged, ordered) = (self.judged.sum(), self.ordered.sum());
         let Extent { events, tasks, links } = self.extent;
         format!(
-            "{judged} calls of the judge and {ordered} of the ordering call, up to {events} \
-             events, {tasks} tasks and chains of {links} links: no mismatch\n"
+            "{judged} calls of the judge, {ordered} of the ordering call and {translated} of the \
+             translation, up to {events} events, {tasks} tasks and chains of {links} links: no \
+             mismatch\n"
         )
     }
 }
 
-fn answer_difference(told: Told, wanted: impl Into<Told>) -> Option<String> {
+pub fn answer_difference(told: Told, wanted: impl Into<Told>) -> Option<String> {
     let wanted = wanted.into();
     (told != wanted).then(|| format!("{told:?}, wanted {wanted:?}"))
 }
@@ -314,17 +271,17 @@ pub fn known<T: Debug + PartialEq>(found: T, wanted: T, on: impl Display) {
 }
 
 /// Ends the test where something differs.
-fn held(told: Result<Told, String>) -> Told {
+pub fn held(told: Result<Told, String>) -> Told {
     told.unwrap_or_else(|difference| mismatch(&difference))
 }
 
-fn first_difference<T: Debug, const N: usize>(
+pub fn first_difference<const N: usize>(
     call: &str,
-    trace: &Trace,
-    wanted: &Outcome<T>,
+    on: &impl Display,
+    wanted: &impl Debug,
     differences: [(&str, Option<String>); N],
 ) -> Option<String> {
     differences.into_iter().find_map(|(what, difference)| {
-        difference.map(|difference| format!("{call}: {what} {difference}\n{wanted:?}\non {trace}"))
+        difference.map(|difference| format!("{call}: {what} {difference}\n{wanted:?}\non {on}"))
     })
 }

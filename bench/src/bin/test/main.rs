@@ -1,12 +1,14 @@
 //! Compares the linked judges with the all-ancestors judge, on document 01's runs, on every short
-//! trace, at the limits, on long traces and on random ones, whole and damaged. The first difference
-//! is printed with its trace and ends the test with status 1. `--seed N` draws other traces,
-//! `--times N` draws more.
+//! trace, at the limits, on long traces and on random ones, whole and damaged; and the library's
+//! translation of texts with the slow judge's own. The first difference is printed with its trace
+//! or text and ends the test with status 1. `--seed N` draws others, `--times N` draws more.
 
+mod buffer;
 mod compare;
 mod document;
 mod limits;
 mod plants;
+mod texts;
 mod watch;
 
 use compare::{known, Test};
@@ -17,6 +19,7 @@ use racejudge_bench::samples;
 use racejudge_bench::trace::*;
 use racejudge_bench::words;
 use racejudge_bench::workloads::WORKLOADS;
+use texts::Texts;
 
 /// Every trace of up to `more` further events over two locations, and each way to break a rule in
 /// the event after.
@@ -103,9 +106,12 @@ fn main() {
     limits::all(&mut test);
     long_traces(&mut test);
     random_traces(&mut test, times);
+    let mut texts = Texts::new(seed as u64);
+    texts::all(&mut texts, times);
     print(&test.table());
-    if let Some(missing) = test.missing() {
+    print(&texts.table());
+    if let Some(missing) = test.missing().or(texts.missing()) {
         fail(&format!("MISSING: never met: {missing}"));
     }
-    print(&test.closing_line());
+    print(&test.closing_line(texts.calls()));
 }

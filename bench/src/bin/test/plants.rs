@@ -2,6 +2,7 @@
 
 use crate::compare::{Test, JUDGES};
 use crate::document::{trace, WRITES_TWICE};
+use crate::texts::{wanted, Text, Texts, Wanted, ENOUGH};
 use racejudge_bench::ancestors::Outcome;
 use racejudge_bench::ffi::Told;
 use racejudge_bench::program::fail;
@@ -27,6 +28,33 @@ const ORDERED: [Change<Ordering>; 3] = [
     |wanted| wanted.cleared += 1,
 ];
 
+type TextChange = fn(&mut Wanted);
+
+/// A text, and what is made wrong of what is wanted for it: the answer, an event in each slice, the
+/// first cell behind the events.
+const TRANSLATED: [(&str, &[TextChange]); 2] = [
+    (
+        "T0|fork(T1)|1\nT0|r(V5)|2\n",
+        &[
+            |wanted| wanted.said = Translation::Events(2),
+            |wanted| wanted.said = Translation::Short,
+            |wanted| wanted.events.kinds[0] += 1,
+            |wanted| wanted.events.tasks[1] += 1,
+            |wanted| wanted.events.operands[2] += 1,
+            |wanted| wanted.events.truncate(2),
+            |wanted| wanted.events.push(0, READ, 0),
+        ],
+    ),
+    (
+        "T0|r(V5)|1\nT0|r(V5)\n",
+        &[
+            |wanted| wanted.said = Translation::Refused(14, 0),
+            |wanted| wanted.said = Translation::Refused(15, 1),
+            |wanted| wanted.events.push(0, READ, 5),
+        ],
+    ),
+];
+
 /// How many wrong expectations were noticed. One that is not ends the test.
 pub fn all() -> usize {
     let mut test = Test::new(1);
@@ -34,7 +62,7 @@ pub fn all() -> usize {
     test.dirt.fill(u16::MAX);
     judged(&mut test, &trace(WRITES_TWICE));
     ordered(&mut test, &trace(WRITES_TWICE));
-    JUDGES.len() * (JUDGED.len() + ORDERED.len())
+    JUDGES.len() * (JUDGED.len() + ORDERED.len()) + translated()
 }
 
 fn judged(test: &mut Test, trace: &Trace) {
@@ -56,7 +84,21 @@ fn ordered(test: &mut Test, trace: &Trace) {
     }
 }
 
-fn noticed<T: Debug>(told: Result<Told, String>, wrong: &Outcome<T>) {
+fn translated() -> usize {
+    let mut texts = Texts::new(1);
+    // A cell that is not written is none of an event.
+    texts.dirt.fill(u16::MAX);
+    for (text, changes) in TRANSLATED {
+        for change in changes {
+            let mut wanted = wanted(text.as_bytes(), ENOUGH);
+            change(&mut wanted);
+            noticed(texts.translated(&Text::from(text), ENOUGH, &wanted), &wanted);
+        }
+    }
+    TRANSLATED.iter().map(|(_, changes)| changes.len()).sum()
+}
+
+fn noticed(told: Result<Told, String>, wrong: &impl Debug) {
     if told.is_ok() {
         fail(&format!("NOT NOTICED, though it is wrong: {wrong:?}"));
     }

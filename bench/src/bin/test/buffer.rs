@@ -1,0 +1,64 @@
+//! Cells that are lent to a call, and what they hold before it.
+
+use racejudge_bench::rng::Rng;
+use racejudge_bench::trace::{MAX_EVENTS, TASKS, WORKSPACE};
+use std::fmt::Display;
+
+/// Cells on either side of each lent slice that must stay as they are.
+const GUARD: usize = 16;
+
+/// Cells with any content, of which those between the guards are lent.
+pub struct Buffer<T> {
+    cells: Vec<T>,
+    before: Vec<T>,
+}
+
+impl Buffer<u16> {
+    /// So many cells to lend, with a part of the dirt.
+    pub fn drawn(dirt: &[u16], rng: &mut Rng, lent: usize) -> Self {
+        let whole = lent + 2 * GUARD;
+        let from = rng.below(dirt.len() - whole + 1);
+        let before = dirt[from..from + whole].to_vec();
+        Buffer { cells: before.clone(), before }
+    }
+
+    /// The low byte of each cell.
+    pub fn bytes(self) -> Buffer<u8> {
+        let low = |cells: Vec<u16>| cells.into_iter().map(|cell| cell as u8).collect();
+        Buffer { cells: low(self.cells), before: low(self.before) }
+    }
+}
+
+impl<T: Copy + PartialEq + Display> Buffer<T> {
+    pub fn lend(&mut self) -> &mut [T] {
+        let end = self.cells.len() - GUARD;
+        &mut self.cells[GUARD..end]
+    }
+
+    /// The first cell that is wrong: the lent ones must begin with `start`, all others be as they
+    /// were.
+    pub fn difference(&self, start: &[T]) -> Option<String> {
+        let (cells, before) = (&self.cells, &self.before);
+        let (from, to) = (GUARD, GUARD + start.len());
+        if cells[from..to] == *start
+            && cells[..from] == before[..from]
+            && cells[to..] == before[to..]
+        {
+            return None;
+        }
+        let wanted = [&before[..from], start, &before[to..]].concat();
+        let at = (0..wanted.len()).find(|&at| cells[at] != wanted[at])?;
+        let place = at as isize - GUARD as isize;
+        Some(format!("cell {place} is {}, wanted {}", cells[at], wanted[at]))
+    }
+}
+
+/// What buffers hold before a call: zeros, ones in every bit, what looks like tasks, anything.
+pub fn dirt(rng: &mut Rng) -> Vec<u16> {
+    let length = WORKSPACE + MAX_EVENTS + 2 * GUARD;
+    let mut cells = vec![0; length];
+    cells.resize(2 * length, u16::MAX);
+    cells.extend((0..length).map(|_| rng.cell(TASKS)));
+    cells.extend((0..2 * length).map(|_| rng.cell(65_536)));
+    cells
+}

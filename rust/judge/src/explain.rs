@@ -1,0 +1,86 @@
+//! What the proved library said, in words for people.
+
+mod collision;
+mod misfit;
+mod order;
+mod page;
+mod race;
+mod refusal;
+mod rows;
+mod ways;
+
+pub use refusal::{Reason, Refused};
+
+use crate::phrases::count;
+use crate::recording::Recording;
+use crate::study::{Question, Scene, Study};
+use page::Page;
+use race::Race;
+use racejudge::Verdict;
+
+/// The proved answer's line, and what it means. The orders of a race are shown whole where that is
+/// wanted.
+pub fn judged(study: &Study, whole: bool) -> String {
+    let mut page = Page::default();
+    page.add(&study.line());
+    match (&study.answer, &study.scene) {
+        (Ok(Verdict::Clean), Some(scene)) => clean(&mut page, scene),
+        (Ok(Verdict::Race { s, t, first, second }), Some(scene)) => {
+            let why = study.why.as_ref();
+            Race { s: *s, t: *t, orders: [first, second], why, whole }.tell(&mut page, scene);
+            counting(&mut page, scene.recording);
+        }
+        (Err(refusal), scene) => {
+            let refused = Refused::of(study.recording, scene.as_ref(), refusal);
+            refused.tell(&mut page, refusal);
+            if let Refused::Event(_, p) = refused {
+                let before = format!("No two accesses before event {p} race.");
+                page.say(&format!("{before} Nothing is said of what follows."));
+                counting(&mut page, study.recording);
+            }
+        }
+        (Ok(_), None) => {}
+    }
+    page.text()
+}
+
+fn clean(page: &mut Page, scene: &Scene) {
+    if scene.trace.is_empty() {
+        page.say("There is no event in the file: none was judged.");
+        return;
+    }
+    page.say(
+        "No race: whatever order the cores take that the forks and joins allow, each read sees the \
+         same write, and each location ends with the same last write.",
+    );
+    let tasks = count(scene.graph.columns().len(), "task");
+    page.say(&format!("Judged: {} by {tasks}.", count(scene.trace.len(), "event")));
+}
+
+/// How events and lines are numbered.
+fn counting(page: &mut Page, recording: &Recording) {
+    page.say(match recording.text {
+        Some(_) => {
+            "Events count from 0, lines from 1. Halts are put in: they are events with no line."
+        }
+        None => "Events count from 0.",
+    });
+}
+
+/// The proved answer to a question, and what it means.
+pub fn asked(question: &Question) -> String {
+    let mut page = Page::default();
+    page.add(&question.line());
+    match (&question.answer, &question.scene) {
+        (Ok(true), Some(scene)) => order::ordered(&mut page, scene, question),
+        (Ok(false), Some(scene)) => order::unordered(&mut page, scene, question),
+        (Err(refusal), scene) => {
+            Refused::of(question.recording, scene.as_ref(), refusal).tell(&mut page, refusal);
+        }
+        (Ok(_), None) => {}
+    }
+    if question.answer.is_ok() {
+        counting(&mut page, question.recording);
+    }
+    page.text()
+}

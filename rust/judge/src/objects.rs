@@ -1,0 +1,161 @@
+//! The answers as JSON, one object a line. Events and positions count from 0, lines of a text from 1.
+
+use crate::answer::Answer;
+use crate::explain::{Reason, Refused};
+use crate::json::Json;
+use crate::recording::Recording;
+use crate::study::{Question, Scene, Study};
+use crate::why::Why;
+use crate::words::Picture;
+use racejudge::{Refusal, Verdict};
+use std::ffi::OsStr;
+
+type Fields = Vec<(&'static str, Json)>;
+
+/// A file that cannot be judged.
+pub fn unread(file: &OsStr, wrong: &str) -> String {
+    let fields = vec![("answer", Json::from("error")), ("error", wrong.into())];
+    line(file, fields)
+}
+
+/// A file that was judged.
+pub fn judged(file: &OsStr, study: &Study, picture: &Picture) -> String {
+    let word = match &study.answer {
+        Ok(Verdict::Clean) => "clean",
+        Ok(Verdict::Race { .. }) => "race",
+        Err(_) => "refused",
+    };
+    let mut fields = head(word, study.line(), study.scene.as_ref());
+    match &study.answer {
+        Err(refusal) => {
+            fields.extend(refused(study.recording, study.scene.as_ref(), refusal));
+        }
+        answer => fields.extend(race(answer, study)),
+    }
+    match picture {
+        Picture::Unwanted => {}
+        Picture::Drawn(path) => fields.push(("picture", lossy(path.as_encoded_bytes()).into())),
+        Picture::Nothing => fields.push(("picture", Json::Null)),
+        Picture::Failed(wrong) => {
+            fields.extend([("picture", Json::Null), ("error", wrong.as_str().into())]);
+        }
+    }
+    line(file, fields)
+}
+
+/// An answer to a question.
+pub fn asked(file: &OsStr, question: &Question) -> String {
+    let word = match &question.answer {
+        Ok(true) => "yes",
+        Ok(false) => "no",
+        Err(_) => "refused",
+    };
+    let mut fields = head(word, question.line(), question.scene.as_ref());
+    match (&question.answer, &question.scene) {
+        (Err(refusal), scene) => {
+            fields.extend(refused(question.recording, scene.as_ref(), refusal));
+        }
+        (Ok(_), Some(scene)) => {
+            let Question { p, q, .. } = *question;
+            let path = scene.graph.path(p, q);
+            fields.extend([
+                ("p", event(scene, p)),
+                ("q", event(scene, q)),
+                ("reverse", question.reverse.ok().into()),
+                ("path", Some(path).filter(|path| !path.is_empty()).into()),
+                ("why", question.why.as_ref().map(why).into()),
+            ]);
+        }
+        (Ok(_), None) => {}
+    }
+    line(file, fields)
+}
+
+fn line(file: &OsStr, mut fields: Fields) -> String {
+    fields.insert(0, ("file", lossy(file.as_encoded_bytes()).into()));
+    format!("{}\n", Json::Object(fields))
+}
+
+/// What every answer has.
+fn head(word: &str, line: String, scene: Option<&Scene>) -> Fields {
+    vec![
+        ("answer", word.into()),
+        ("line", line.into()),
+        ("events", scene.map(|scene| scene.trace.len()).into()),
+        ("tasks", scene.map(|scene| scene.graph.columns().len()).into()),
+    ]
+}
+
+fn race(answer: &Answer, study: &Study) -> Fields {
+    let (Ok(Verdict::Race { s, t, first, second }), Some(scene)) = (answer, &study.scene) else {
+        return Vec::new();
+    };
+    vec![
+        ("location", scene.trace.event(*t).map(|event| event.operand).into()),
+        ("s", event(scene, *s)),
+        ("t", event(scene, *t)),
+        ("why", study.why.as_ref().map(why).into()),
+        ("first", first.clone().into()),
+        ("second", second.clone().into()),
+    ]
+}
+
+fn why(why: &Why) -> Json {
+    Json::Object(vec![
+        ("parted", why.parted.into()),
+        ("to_s", why.to_s.clone().into()),
+        ("to_t", why.to_t.clone().into()),
+        ("unjoined", why.unjoined.clone().into()),
+        ("joined_later", why.joined_later.into()),
+    ])
+}
+
+fn event(scene: &Scene, p: usize) -> Json {
+    let Some(event) = scene.trace.event(p) else {
+        return Json::Null;
+    };
+    let kind = event.kind().map_or(format!("kind-{}", event.kind), |kind| kind.to_string());
+    let place = scene.place(p);
+    Json::Object(vec![
+        ("event", p.into()),
+        ("task", event.task.into()),
+        ("kind", kind.into()),
+        ("operand", event.operand.into()),
+        ("line", place.map(|place| place.line).into()),
+        ("source", place.map(|place| place.source).into()),
+        ("text", scene.line(p).map(lossy).into()),
+    ])
+}
+
+fn refused(recording: &Recording, scene: Option<&Scene>, refusal: &Refusal) -> Fields {
+    let refused = Refused::of(recording, scene, refusal);
+    let Reason { state, hint } = refused.reason(refusal);
+    let unless_empty = |text: &'static str| Some(text).filter(|text| !text.is_empty()).into();
+    let text_line = |text: &[u8], byte: Option<usize>| {
+        Json::Object(vec![
+            ("line", (refusal.position + 1).into()),
+            ("text", lossy(text).into()),
+            ("byte", byte.into()),
+        ])
+    };
+    let (event, text_line) = match refused {
+        Refused::Event(scene, p) => (event(scene, p), Json::Null),
+        Refused::Line(text, misfit) => (Json::Null, text_line(text, Some(misfit.at))),
+        Refused::LineTooMany(text) => (Json::Null, text_line(text, None)),
+        Refused::Whole(_) => (Json::Null, Json::Null),
+    };
+    vec![
+        ("row", refusal.row.into()),
+        ("position", refusal.position.into()),
+        ("meaning", refusal.meaning().into()),
+        ("event", event),
+        ("text_line", text_line),
+        ("state", state.into()),
+        ("cause", unless_empty(hint.cause)),
+        ("advice", unless_empty(hint.advice)),
+    ]
+}
+
+fn lossy(bytes: &[u8]) -> String {
+    String::from_utf8_lossy(bytes).into_owned()
+}

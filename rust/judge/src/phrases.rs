@@ -1,0 +1,105 @@
+//! Words for events, tasks, numbers and bytes.
+
+use racejudge::{Event, Kind};
+use std::ffi::OsStr;
+
+/// What the event does, in words.
+pub fn deed(event: Event) -> String {
+    let Event { kind, task, operand } = event;
+    match event.kind() {
+        Some(Kind::Read) => format!("task {task} reads location {operand}"),
+        Some(Kind::Write) => format!("task {task} writes location {operand}"),
+        Some(Kind::Fork) => format!("task {task} forks task {operand}"),
+        Some(Kind::Join) => format!("task {task} joins task {operand}"),
+        Some(Kind::Halt) if operand == 0 => format!("task {task} halts"),
+        Some(Kind::Halt) => format!("task {task} halts, with the operand {operand}"),
+        None => format!("task {task} does something of kind {kind} with {operand}"),
+    }
+}
+
+/// `task 5`, or `tasks 5, 4 and 3`; of many the first few and the last.
+pub fn tasks(tasks: &[u16]) -> String {
+    const MOST: usize = 12;
+    match tasks {
+        [] => "no task".to_string(),
+        [one] => format!("task {one}"),
+        [shown @ .., last] if tasks.len() <= MOST => format!("tasks {} and {last}", list(shown)),
+        [shown @ .., last] => {
+            format!("tasks {}, .. and {last} ({} in all)", list(&shown[..MOST - 2]), tasks.len())
+        }
+    }
+}
+
+fn list(numbers: &[u16]) -> String {
+    numbers.iter().map(u16::to_string).collect::<Vec<_>>().join(", ")
+}
+
+/// `1 event`, `2 events`.
+pub fn count(number: usize, one: &str) -> String {
+    format!("{number} {one}{}", if number == 1 { "" } else { "s" })
+}
+
+/// A limit as people write it, `32,768`.
+pub fn grouped(number: usize) -> String {
+    match number {
+        0..1_000 => number.to_string(),
+        _ => format!("{},{:03}", grouped(number / 1_000), number % 1_000),
+    }
+}
+
+/// A sentence's first letter made large.
+pub fn capital(sentence: &str) -> String {
+    let mut letters = sentence.chars();
+    letters.next().map_or(String::new(), |first| first.to_uppercase().chain(letters).collect())
+}
+
+/// The bytes of a line as they may go to a terminal: all but visible letters and blanks escaped.
+pub fn visible(line: &[u8]) -> String {
+    let letter = |&byte: &u8| match byte {
+        b'\r' => "\\r".to_string(),
+        b'\t' => "\\t".to_string(),
+        b' '..=b'~' => char::from(byte).to_string(),
+        _ => format!("\\x{byte:02x}"),
+    };
+    line.iter().map(letter).collect()
+}
+
+/// A name as it may go to a terminal: its controls escaped.
+pub fn printable(name: &OsStr) -> String {
+    let mut printable = String::new();
+    for letter in name.to_string_lossy().chars() {
+        if letter.is_control() {
+            printable.extend(letter.escape_default());
+        } else {
+            printable.push(letter);
+        }
+    }
+    printable
+}
+
+#[cfg(test)]
+mod tests {
+    use super::*;
+
+    #[test]
+    fn limits_are_grouped() {
+        assert_eq!([0, 999, 1_023, 1_000_007].map(grouped), ["0", "999", "1,023", "1,000,007"]);
+    }
+
+    #[test]
+    fn many_tasks_are_cut() {
+        assert_eq!(tasks(&[]), "no task");
+        assert_eq!(tasks(&[7]), "task 7");
+        assert_eq!(tasks(&[3, 2, 1]), "tasks 3, 2 and 1");
+        let many: Vec<u16> = (1..=13).collect();
+        assert_eq!(tasks(&many), "tasks 1, 2, 3, 4, 5, 6, 7, 8, 9, 10, .. and 13 (13 in all)");
+    }
+
+    #[test]
+    fn no_byte_of_a_line_reaches_the_terminal_as_a_control() {
+        assert_eq!(visible(b"T0|r(V5)|1\r"), "T0|r(V5)|1\\r");
+        assert_eq!(visible(b"a \t\x1b[2J\x00\x7f\xc3\xa9"), "a \\t\\x1b[2J\\x00\\x7f\\xc3\\xa9");
+        let all: Vec<u8> = (0..=255).collect();
+        assert!(visible(&all).bytes().all(|byte| (b' '..=b'~').contains(&byte)));
+    }
+}

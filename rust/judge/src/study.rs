@@ -1,0 +1,108 @@
+//! What is known of a recording: what the proved library says, and what explains it.
+
+use crate::answer::{self, Answer};
+use crate::graph::Graph;
+use crate::recording::Recording;
+use crate::why::Why;
+use racejudge::{reaches, Kind, Place, Refusal, Trace, Verdict};
+
+/// A trace, its graph as far as it keeps the rules, and where it was recorded.
+pub struct Scene<'a> {
+    pub recording: &'a Recording,
+    pub trace: &'a Trace,
+    pub graph: Graph,
+}
+
+impl<'a> Scene<'a> {
+    /// None where the recording has no trace.
+    pub fn new(recording: &'a Recording) -> Option<Self> {
+        let trace = recording.trace.as_ref().ok()?;
+        Some(Scene { recording, trace, graph: Graph::new(trace, trace.len()) })
+    }
+
+    pub fn is_move(&self, p: usize) -> bool {
+        self.trace.event(p).and_then(|event| event.kind()).is_some_and(|kind| !kind.is_access())
+    }
+
+    pub fn task(&self, p: usize) -> u16 {
+        self.trace.event(p).map_or(0, |event| event.task)
+    }
+
+    /// The line that made the event, from 1 as people count, and its source line. A halt has none:
+    /// it was put in before that of the event behind it.
+    pub fn place(&self, p: usize) -> Option<Place> {
+        let made = self.trace.event(p)?.kind() != Some(Kind::Halt);
+        let place = self.trace.place(p).filter(|_| made)?;
+        Some(Place { line: place.line + 1, ..place })
+    }
+
+    /// The line's text.
+    pub fn line(&self, p: usize) -> Option<&[u8]> {
+        let place = self.place(p)?;
+        self.recording.line(place.line - 1).map(|(line, _)| line)
+    }
+}
+
+/// A recording that is judged.
+pub struct Study<'a> {
+    pub recording: &'a Recording,
+    pub scene: Option<Scene<'a>>,
+    pub answer: Answer,
+    /// None where there is no race.
+    pub why: Option<Why>,
+}
+
+impl<'a> Study<'a> {
+    pub fn new(recording: &'a Recording) -> Self {
+        let answer = answer::judged(recording);
+        let scene = Scene::new(recording);
+        let why = match (&answer, &scene) {
+            (Ok(Verdict::Race { s, t, .. }), Some(scene)) => Why::new(&scene.graph, *s, *t),
+            _ => None,
+        };
+        Study { recording, answer, scene, why }
+    }
+
+    /// The proved answer's own line.
+    pub fn line(&self) -> String {
+        answer::line(&self.answer, self.scene.as_ref().map_or(0, |scene| scene.trace.len()))
+    }
+}
+
+/// A question: does event p of a recording reach event q?
+pub struct Question<'a> {
+    pub recording: &'a Recording,
+    pub scene: Option<Scene<'a>>,
+    pub p: usize,
+    pub q: usize,
+    pub answer: Result<bool, Refusal>,
+    /// The answer the other way round.
+    pub reverse: Result<bool, Refusal>,
+    /// None where one of the two reaches the other.
+    pub why: Option<Why>,
+}
+
+impl<'a> Question<'a> {
+    pub fn new(recording: &'a Recording, p: usize, q: usize) -> Self {
+        let scene = Scene::new(recording);
+        let ask = |p, q| {
+            let trace = recording.trace.as_ref().map_err(|refusal| *refusal)?;
+            reaches(trace, p, q)
+        };
+        let (answer, reverse) = (ask(p, q), ask(q, p));
+        let why = match (answer, reverse, &scene) {
+            (Ok(false), Ok(false), Some(scene)) => Why::new(&scene.graph, p.min(q), p.max(q)),
+            _ => None,
+        };
+        Question { recording, scene, p, q, answer, reverse, why }
+    }
+
+    /// The proved answer's own line.
+    pub fn line(&self) -> String {
+        match &self.answer {
+            Ok(true) => "yes".to_string(),
+            Ok(false) => "no".to_string(),
+            Err(refusal) => answer::refused(refusal),
+        }
+    }
+}

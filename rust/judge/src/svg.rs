@@ -1,0 +1,36 @@
+//! The picture of a run: what ran beside what, which two accesses race, why nothing orders them.
+//!
+//! `story` and `words` know what is to be told, `choice` which events and tasks are drawn, `layout`
+//! where they stand, and `lines` what runs between them. `page`, `figure` and `legend` put it on a
+//! `canvas`, which writes SVG.
+
+mod canvas;
+mod choice;
+mod figure;
+mod layout;
+mod legend;
+mod lines;
+mod page;
+mod story;
+mod style;
+mod text;
+mod words;
+
+use crate::answer::Answer;
+use crate::graph::Graph;
+use crate::why::Why;
+use racejudge::Trace;
+
+/// Draws the run: a column for each task in the line's order, time downward, and the race marked.
+/// `graph` is that of the first events that keep the rules, and `why` that of the race. Long runs
+/// are cut to what the answer needs, and say so. The same run gives the same text.
+pub fn draw(
+    trace: &Trace,
+    graph: &Graph,
+    answer: &Answer,
+    why: Option<&Why>,
+    title: &str,
+) -> String {
+    let story = story::Story::new(trace, graph, answer, why);
+    page::page(&story, &choice::Choice::new(&story), title)
+}

@@ -1,0 +1,209 @@
+//! Draws the rows and columns: bands, heads, numbers, lines, events and notes.
+
+use super::canvas::Canvas;
+use super::layout::{gap_words, Layout, Row, LABEL_GAP, MARGIN, ROW, SIGN_GAP};
+use super::lines::{lines, missing_join};
+use super::story::{Mark, Story, Tone};
+use super::text::grouped;
+use super::words::{label, NO_ORDER};
+use racejudge::{Event, Kind};
+
+pub struct Figure<'a> {
+    pub story: &'a Story<'a>,
+    pub layout: &'a Layout,
+    pub canvas: &'a mut Canvas,
+}
+
+impl Figure<'_> {
+    /// Returns how far down it reaches. What is drawn later lies on top.
+    pub fn draw(&mut self) -> i32 {
+        self.bands();
+        self.leaders();
+        self.heads();
+        self.lines();
+        self.rows();
+        self.race();
+        self.layout.bottom()
+    }
+
+    /// The ground of rows that stand out, and a thin rule under each other one.
+    fn bands(&mut self) {
+        let right = self.layout.width - MARGIN;
+        for (i, row) in self.layout.rows.iter().enumerate() {
+            let top = self.layout.y(i) - ROW / 2;
+            let mark = match *row {
+                Row::Event(p) => self.story.mark(p),
+                _ => None,
+            };
+            let class = match (row, mark) {
+                (Row::Gap(_), _) => "band-gap",
+                (_, Some(Mark::Racing | Mark::Refused)) => "band-hot",
+                (_, Some(Mark::Parted)) => "band-note",
+                _ => {
+                    let under = top + ROW;
+                    self.canvas.line(&[(MARGIN, under), (right, under)], "rule");
+                    continue;
+                }
+            };
+            self.canvas.rect((MARGIN - 8, top), (right - MARGIN + 16, ROW), class);
+        }
+    }
+
+    /// Leads the eye from events to their notes, where no band does.
+    fn leaders(&mut self) {
+        for (i, row) in self.layout.rows.iter().enumerate() {
+            let (p, gap) = match (*row, self.story.pair) {
+                (Row::Event(p), _) => match self.story.mark(p) {
+                    Some(Mark::Ended) => (p, LABEL_GAP + 6),
+                    Some(Mark::Late) => (p, self.layout.labels + 4),
+                    _ => continue,
+                },
+                (Row::Missing, Some((_, t))) => (t, LABEL_GAP),
+                _ => continue,
+            };
+            let task = self.story.trace.event(p).map(|event| event.task);
+            if let Some(x) = task.and_then(|task| self.layout.x_of(task)) {
+                let y = self.layout.y(i);
+                self.canvas.line(&[(x + gap, y), (self.layout.notes - 8, y)], "leader");
+            }
+        }
+    }
+
+    fn heads(&mut self) {
+        let (layout, upper, lower) = (self.layout, self.layout.top + 10, self.layout.top + 26);
+        self.canvas.text((layout.table.event, lower), "tiny end", "event");
+        if let Some((line, source)) = layout.table.places {
+            for (x, word) in [(line, "text"), (source, "source")] {
+                self.canvas.text((x, upper), "tiny end", word);
+                self.canvas.text((x, lower), "tiny end", "line");
+            }
+        }
+        let mut before = None;
+        for column in &layout.columns {
+            self.canvas.text((column.x, lower), "head", &format!("task {}", column.task));
+            let x = before.map_or(column.x - layout.pitch / 2, |before| (before + column.x) / 2);
+            self.skipped((x, upper), column.skipped);
+            before = Some(column.x);
+        }
+        self.skipped((before.unwrap_or(0) + layout.pitch / 2, upper), layout.skipped_after);
+    }
+
+    /// How many tasks are left out at a place.
+    fn skipped(&mut self, at: (i32, i32), tasks: usize) {
+        if tasks > 0 {
+            self.canvas.text(at, "tiny mid skip", &format!("⋯ {} ⋯", grouped(tasks)));
+        }
+    }
+
+    /// The paler lie beneath the stronger.
+    fn lines(&mut self) {
+        let mut lines = lines(self.story, self.layout);
+        lines.sort_by_key(|line| line.tone);
+        for line in lines {
+            let class = format!("line {} {}", line.stroke.class(), line.tone.class());
+            self.canvas.line(&line.points, &class);
+        }
+        if let Some(points) = missing_join(self.story, self.layout) {
+            self.canvas.line(&points, "missing");
+            self.canvas.cross(points[2], 6, "cross");
+        }
+    }
+
+    fn rows(&mut self) {
+        for (i, row) in self.layout.rows.iter().enumerate() {
+            let y = self.layout.y(i);
+            match *row {
+                Row::Event(p) => self.event(p, y),
+                Row::Gap(events) => self.canvas.text((MARGIN, y), "tiny gap", &gap_words(events)),
+                Row::Missing => {
+                    let words = self.story.missing().unwrap_or_default();
+                    self.canvas.text((self.layout.notes, y), "hot", &words);
+                }
+            }
+        }
+    }
+
+    fn event(&mut self, p: usize, y: i32) {
+        let Some(event) = self.story.trace.event(p) else { return };
+        let (tone, mark) = (self.story.tone(p), self.story.mark(p));
+        let class = format!("event {}{}", tone.class(), mark_class(mark));
+        self.canvas.open(&format!("event-{p}"), &class, &self.story.tooltip(p));
+        self.numbers(p, y, tone, mark);
+        if let Some(x) = self.layout.x_of(event.task) {
+            self.node((x, y), event, tone, mark);
+            self.label((x, y), event, tone, mark);
+        }
+        if let Some(note) = self.story.note(p) {
+            self.canvas.text((self.layout.notes, y), weight(mark, "plain"), &note);
+        }
+        self.canvas.close();
+    }
+
+    fn numbers(&mut self, p: usize, y: i32, tone: Tone, mark: Option<Mark>) {
+        let weight = weight(mark, if tone == Tone::Pale { "pale" } else { "plain" });
+        let table = &self.layout.table;
+        self.canvas.text((table.event, y), &format!("end {weight}"), &p.to_string());
+        let Some((line, source)) = self.story.place(p) else { return };
+        if let Some((line_end, source_end)) = table.places {
+            let class = if tone == Tone::Pale { "end pale" } else { "end soft" };
+            self.canvas.text((line_end, y), class, &line.to_string());
+            self.canvas.text((source_end, y), class, &source.to_string());
+        }
+    }
+
+    fn node(&mut self, at: (i32, i32), event: Event, tone: Tone, mark: Option<Mark>) {
+        let (x, y) = at;
+        let racing = mark == Some(Mark::Racing);
+        if racing {
+            self.canvas.circle(at, 11, "ring");
+        }
+        let radius = if racing { 6 } else { 5 };
+        let tone = tone.class();
+        match event.kind() {
+            _ if mark == Some(Mark::Refused) => self.canvas.cross(at, 7, "cross"),
+            _ if mark == Some(Mark::Parted) => self.canvas.diamond(at, 8, "diamond"),
+            Some(Kind::Write) => self.canvas.circle(at, radius, &format!("full {tone}")),
+            Some(Kind::Read) => self.canvas.circle(at, radius, &format!("hollow {tone}")),
+            Some(Kind::Halt) => self.canvas.line(&[(x - 8, y), (x + 8, y)], &format!("bar {tone}")),
+            _ => self.canvas.circle(at, 3, &format!("full {tone}")),
+        }
+    }
+
+    fn label(&mut self, (x, y): (i32, i32), event: Event, tone: Tone, mark: Option<Mark>) {
+        let has_sign = matches!(mark, Some(Mark::Racing | Mark::Parted | Mark::Refused));
+        if event.kind() != Some(Kind::Halt) || has_sign {
+            let gap = if has_sign { SIGN_GAP } else { LABEL_GAP };
+            self.canvas.text((x + gap, y), weight(mark, tone.class()), &label(event));
+        }
+    }
+
+    /// The connection of the two accesses, beside the numbers of their rows.
+    fn race(&mut self) {
+        let (Some((s, t)), Some((x, half))) = (self.story.pair, self.layout.lane) else { return };
+        let (Some(top), Some(bottom)) = (self.layout.y_of(s), self.layout.y_of(t)) else { return };
+        self.canvas.line(&[(x + 24, top), (x, top), (x, bottom), (x + 24, bottom)], "bracket");
+        let middle = (top + bottom) / 2;
+        self.canvas.rect((x - half, middle - 11), (2 * half, 22), "plate");
+        self.canvas.text((x, middle), "hot mid", NO_ORDER);
+    }
+}
+
+/// The class of what is written about an event.
+fn weight(mark: Option<Mark>, otherwise: &'static str) -> &'static str {
+    match mark {
+        Some(Mark::Racing | Mark::Refused) => "hot",
+        Some(Mark::Parted) => "bold",
+        _ => otherwise,
+    }
+}
+
+fn mark_class(mark: Option<Mark>) -> &'static str {
+    match mark {
+        Some(Mark::Racing) => " racing",
+        Some(Mark::Parted) => " parted",
+        Some(Mark::Ended) => " ended",
+        Some(Mark::Late) => " late",
+        Some(Mark::Refused) => " refused",
+        None => "",
+    }
+}

@@ -1,0 +1,179 @@
+//! What is to be told of a run: how each event and each arc concerns the race.
+
+use crate::answer::Answer;
+use crate::graph::Graph;
+use crate::why::Why;
+use racejudge::{Kind, Refusal, Trace, Verdict};
+
+/// How an event or an arc concerns the race. The order is that of painting: the last is on top.
+#[derive(Clone, Copy, Debug, PartialEq, Eq, PartialOrd, Ord)]
+pub enum Tone {
+    /// It reaches neither of the two accesses.
+    Pale,
+    /// It reaches one of them, or there is no race.
+    Plain,
+    /// It is on the way from the fork that parts the two to the first of them,
+    ToS,
+    /// or to the second.
+    ToT,
+    /// An arc on the way from the first access to the halt of the task that is not joined.
+    Onward,
+}
+
+impl Tone {
+    /// The class of the picture's style sheet.
+    pub fn class(self) -> &'static str {
+        match self {
+            Tone::Pale => "pale",
+            Tone::Plain => "plain",
+            Tone::ToS => "to-s",
+            Tone::ToT => "to-t",
+            Tone::Onward => "onward",
+        }
+    }
+}
+
+/// Why an event stands out.
+#[derive(Clone, Copy, Debug, PartialEq, Eq)]
+pub enum Mark {
+    /// One of the two accesses.
+    Racing,
+    /// The fork that parts them.
+    Parted,
+    /// The halt of the task that would have had to be joined.
+    Ended,
+    /// The join that comes too late.
+    Late,
+    /// The event that breaks a rule.
+    Refused,
+}
+
+pub struct Story<'a> {
+    pub trace: &'a Trace,
+    pub graph: &'a Graph,
+    pub answer: &'a Answer,
+    pub why: Option<&'a Why>,
+    /// The two accesses of a race.
+    pub pair: Option<(usize, usize)>,
+    /// The event that breaks a rule: it stands behind those of the graph.
+    pub refused: Option<usize>,
+    /// The way from the first access to the halt of the task that is not joined.
+    pub onward: Vec<usize>,
+    /// For each event of the graph.
+    parts: Vec<Part>,
+}
+
+/// What an event has to do with the race.
+#[derive(Clone, Copy)]
+struct Part {
+    tone: Tone,
+    /// The event before it on one of the ways, if it is on one.
+    before: Option<usize>,
+}
+
+impl<'a> Story<'a> {
+    pub fn new(
+        trace: &'a Trace,
+        graph: &'a Graph,
+        answer: &'a Answer,
+        why: Option<&'a Why>,
+    ) -> Self {
+        let pair = match *answer {
+            Ok(Verdict::Race { s, t, .. }) if s < t && t < graph.len() => Some((s, t)),
+            _ => None,
+        };
+        let refused = match *answer {
+            Err(Refusal { row: 5..=12, position }) => {
+                Some(position).filter(|&p| p == graph.len() && p < trace.len())
+            }
+            _ => None,
+        };
+        let why = why.filter(|_| pair.is_some());
+        let (onward, parts) = (Vec::new(), Vec::new());
+        let mut story = Story { trace, graph, answer, why, pair, refused, onward, parts };
+        story.parts = vec![Part { tone: story.rest_tone(), before: None }; graph.len()];
+        story.tell_parts();
+        story
+    }
+
+    /// Finds the events that reach one of the two accesses, and those on the ways to them.
+    fn tell_parts(&mut self) {
+        let Some((s, t)) = self.pair else { return };
+        for reaching in [self.graph.reaching(s), self.graph.reaching(t)] {
+            let reached = self.parts.iter_mut().zip(reaching).filter(|(_, reaches)| *reaches);
+            reached.for_each(|(part, _)| part.tone = Tone::Plain);
+        }
+        let Some(why) = self.why else { return };
+        self.onward = self.ended().map_or(Vec::new(), |halt| self.graph.path(s, halt));
+        let ways = [(&why.to_s, Tone::ToS), (&why.to_t, Tone::ToT), (&self.onward, Tone::Pale)];
+        for (way, tone) in ways {
+            for (&from, &to) in way.iter().zip(way.iter().skip(1)) {
+                if let Some(part) = self.parts.get_mut(to) {
+                    *part = Part { tone, before: Some(from) };
+                }
+            }
+        }
+    }
+
+    /// How many events can be drawn: those that keep the rules, and the one that breaks one.
+    pub fn drawable(&self) -> usize {
+        let events = self.graph.len() + usize::from(self.refused.is_some());
+        events.min(self.trace.len())
+    }
+
+    pub fn tone(&self, p: usize) -> Tone {
+        self.parts.get(p).map_or(Tone::Plain, |part| part.tone)
+    }
+
+    /// The tone of the arc from one event to another.
+    pub fn arc_tone(&self, from: usize, to: usize) -> Tone {
+        let is_on_way = self.parts.get(to).is_some_and(|part| part.before == Some(from));
+        match self.tone(to) {
+            Tone::Pale if is_on_way => Tone::Onward,
+            tone if is_on_way => tone,
+            tone => tone.min(Tone::Plain),
+        }
+    }
+
+    /// The tone of what comes after all events.
+    pub fn rest_tone(&self) -> Tone {
+        if self.pair.is_some() {
+            Tone::Pale
+        } else {
+            Tone::Plain
+        }
+    }
+
+    /// The task that holds s and is not joined before t.
+    pub fn holder(&self) -> Option<u16> {
+        self.why.and_then(|why| why.unjoined.last()).copied()
+    }
+
+    /// Its halt.
+    pub fn ended(&self) -> Option<usize> {
+        self.graph.halted_at(self.holder()?)
+    }
+
+    pub fn mark(&self, p: usize) -> Option<Mark> {
+        if self.pair.is_some_and(|(s, t)| p == s || p == t) {
+            Some(Mark::Racing)
+        } else if self.refused == Some(p) {
+            Some(Mark::Refused)
+        } else if self.why.is_some_and(|why| why.parted == p) {
+            Some(Mark::Parted)
+        } else if self.ended() == Some(p) {
+            Some(Mark::Ended)
+        } else if self.why.is_some_and(|why| why.joined_later == Some(p)) {
+            Some(Mark::Late)
+        } else {
+            None
+        }
+    }
+
+    /// The text line, counted from 1, and the source line. A halt has no line of the text.
+    pub fn place(&self, p: usize) -> Option<(usize, u16)> {
+        let is_halt = self.trace.event(p)?.kind() == Some(Kind::Halt);
+        let place = self.trace.place(p).filter(|_| !is_halt)?;
+        Some((place.line + 1, place.source))
+    }
+}

@@ -1,0 +1,169 @@
+//! The words of a picture.
+
+use super::story::{Mark, Story};
+use super::text::grouped;
+use crate::answer;
+use racejudge::{Event, Kind, Refusal, Verdict};
+
+/// What connects the two accesses of a race.
+pub const NO_ORDER: &str = "no order";
+
+const NO_RACE: &str = "No race: where two tasks touch one location and one of them writes, \
+                       forks and joins order the two.";
+
+impl Story<'_> {
+    /// What stands beside a marked event.
+    pub fn note(&self, p: usize) -> Option<String> {
+        let holder = self.holder().unwrap_or_default();
+        let (s, _) = self.pair.unwrap_or_default();
+        Some(match self.mark(p)? {
+            Mark::Racing => {
+                let act = self.trace.event(p).map(sentence)?;
+                let place = self.place(p).map(|(_, source)| format!(", source line {source}"));
+                act + &place.unwrap_or_default()
+            }
+            Mark::Parted => "the last event before both".into(),
+            Mark::Ended => format!("task {holder} ends: by now event {s} is done"),
+            Mark::Late => format!("task {holder} is joined only here"),
+            Mark::Refused => self.answer.as_ref().err()?.meaning().into(),
+        })
+    }
+
+    /// What the refused event should have named.
+    fn instead(&self, row: usize, p: usize) -> Option<String> {
+        let event = self.trace.event(p)?;
+        match row {
+            7 => self.graph.active_before(p).last().map(|task| format!("Task {task} is running.")),
+            10 => {
+                self.graph.forked_at(event.operand).map(|fork| format!("Event {fork} forked it."))
+            }
+            11 => Some(match self.graph.left_before(p).last() {
+                Some(task) => format!("The left neighbour is task {task}."),
+                None => "There is no task at its left.".into(),
+            }),
+            _ => None,
+        }
+    }
+
+    /// What is missing right before t.
+    pub fn missing(&self) -> Option<String> {
+        let (_, t) = self.pair?;
+        Some(format!("no join of {} before event {t}", self.unjoined()?))
+    }
+
+    /// The tasks to be joined, the nearest first.
+    fn unjoined(&self) -> Option<String> {
+        Some(match self.why?.unjoined.as_slice() {
+            [] => return None,
+            [task] => format!("task {task}"),
+            [near, task] => format!("task {near} and then task {task}"),
+            [near, between @ .., task] => {
+                format!("task {near}, {} more and then task {task}", grouped(between.len()))
+            }
+        })
+    }
+
+    /// The proved answer's own line.
+    pub fn answer_line(&self) -> String {
+        answer::line(self.answer, self.trace.len())
+    }
+
+    /// The answer in a few sentences.
+    pub fn summary(&self) -> Vec<String> {
+        match self.answer {
+            Ok(Verdict::Clean) if self.trace.is_empty() => vec!["There are no events.".into()],
+            Ok(Verdict::Clean) => vec![NO_RACE.into()],
+            Ok(Verdict::Race { s, t, .. }) => self.race_summary(*s, *t),
+            Err(refusal) => self.refusal_summary(refusal),
+        }
+    }
+
+    fn refusal_summary(&self, refusal: &Refusal) -> Vec<String> {
+        let mut told = vec![format!("{}.", capitalized(&refusal.to_string()))];
+        if let Some(p) = self.refused {
+            told.extend(self.instead(refusal.row, p));
+            told.push(format!("No two accesses before event {p} race."));
+        }
+        vec![told.join(" ")]
+    }
+
+    fn race_summary(&self, s: usize, t: usize) -> Vec<String> {
+        let act = |p: usize| self.trace.event(p).map(sentence).unwrap_or_default();
+        let mut told = vec![format!(
+            "Event {s} ({}) and event {t} ({}): no path of forks and joins leads from one to the \
+             other, so either can come first.",
+            act(s),
+            act(t)
+        )];
+        if let Some(why) = self.why {
+            let fork = self.trace.event(why.parted).map(sentence).unwrap_or_default();
+            told.push(format!("The ways to them part at event {} ({fork}).", why.parted));
+            told.extend(self.lacking(t));
+        }
+        told
+    }
+
+    /// What would have ordered s before t.
+    fn lacking(&self, t: usize) -> Option<String> {
+        let (joiner, tasks) = (self.trace.event(t)?.task, self.unjoined()?);
+        Some(format!("Before event {t}, task {joiner} would have to join {tasks}."))
+    }
+
+    /// All of an event, for who points at it and for screen readers.
+    pub fn tooltip(&self, p: usize) -> String {
+        let act = self.trace.event(p).map(sentence).unwrap_or_default();
+        match self.place(p) {
+            Some((line, source)) => {
+                format!("event {p}: {act} (text line {line}, source line {source})")
+            }
+            None => format!("event {p}: {act}"),
+        }
+    }
+
+    /// How much of the trace is drawn, where that is less than could be.
+    pub fn extent(&self, events: usize, tasks: usize) -> Option<String> {
+        let (all_events, all_tasks) = (self.trace.len(), self.graph.columns().len());
+        if events >= self.drawable() && tasks >= all_tasks {
+            return None;
+        }
+        let of = |drawn: usize, all: usize| format!("{} of {}", grouped(drawn), grouped(all));
+        let purpose = match self.answer {
+            Ok(Verdict::Race { .. }) => "Cut to what the race needs",
+            _ => "Not all is drawn",
+        };
+        let (events, tasks) = (of(events, all_events), of(tasks, all_tasks));
+        Some(format!("{purpose}: {events} events and {tasks} tasks."))
+    }
+}
+
+fn capitalized(sentence: &str) -> String {
+    let mut chars = sentence.chars();
+    let first = chars.next().map(|c| c.to_ascii_uppercase());
+    first.into_iter().chain(chars).collect()
+}
+
+/// What an event does, in words.
+pub fn sentence(event: Event) -> String {
+    let Event { kind, task, operand } = event;
+    match event.kind() {
+        Some(Kind::Read) => format!("task {task} reads location {operand}"),
+        Some(Kind::Write) => format!("task {task} writes location {operand}"),
+        Some(Kind::Fork) => format!("task {task} forks task {operand}"),
+        Some(Kind::Join) => format!("task {task} joins task {operand}"),
+        Some(Kind::Halt) => format!("task {task} halts"),
+        None => format!("task {task}, kind {kind}, operand {operand}"),
+    }
+}
+
+/// What an event does, as short as it can be said beside its dot.
+pub fn label(event: Event) -> String {
+    let Event { kind, operand, .. } = event;
+    match event.kind() {
+        Some(Kind::Read) => format!("r {operand}"),
+        Some(Kind::Write) => format!("w {operand}"),
+        Some(Kind::Fork) => format!("fork {operand}"),
+        Some(Kind::Join) => format!("join {operand}"),
+        Some(Kind::Halt) => "halt".into(),
+        None => format!("kind {kind}"),
+    }
+}

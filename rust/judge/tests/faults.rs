@@ -1,0 +1,278 @@
+//! Input and output that fail, end, do not end or are not what they should be.
+
+mod common;
+
+use common::{binary, file, finish, folder, judge, run, Said, DOCUMENT};
+use racejudge::{Event, MAX_EVENTS, TEXT_BYTES};
+use racejudge_bench::rng::Rng;
+use std::fs::{self, File};
+use std::io::{Seek, Write};
+use std::iter::repeat_n;
+use std::os::unix::fs::{symlink, PermissionsExt};
+use std::path::Path;
+use std::process::{Command, Stdio};
+
+/// The command behind a redirection by the shell.
+fn redirected(redirection: &str, arguments: &[&str]) -> Said {
+    let mut shell = Command::new("sh");
+    shell.args(["-c", &format!("exec \"$0\" \"$@\" {redirection}"), env!("CARGO_BIN_EXE_judge")]);
+    finish(shell.args(arguments))
+}
+
+#[test]
+fn a_closed_standard_input_is_no_empty_one() {
+    let closed = redirected("<&-", &["-"]);
+    let told = "judge: standard input cannot be read: it is closed\n";
+    assert_eq!((closed.status, closed.out.as_str(), closed.err.as_str()), (3, "", told));
+    // A file is judged all the same.
+    let text = file(DOCUMENT);
+    assert_eq!(redirected("<&-", &[text.to_str().unwrap()]), run([&text]));
+    // One that is empty is none that is closed, however it was opened.
+    for empty in ["</dev/null", "<>/dev/null"] {
+        let said = redirected(empty, &["-"]);
+        assert_eq!((said.status, said.out.lines().next()), (0, Some("clean 0")), "{empty}");
+    }
+}
+
+#[test]
+fn a_standard_input_that_cannot_be_read_is_told() {
+    let said = redirected("</", &["-"]);
+    let told = "judge: standard input cannot be read: Is a directory\n";
+    assert_eq!((said.status, said.out.as_str(), said.err.as_str()), (3, "", told));
+    let said = redirected("0>/dev/null", &["-"]);
+    let told = "judge: standard input cannot be read: Bad file descriptor\n";
+    assert_eq!((said.status, said.out.as_str(), said.err.as_str()), (3, "", told));
+}
+
+#[test]
+fn lost_output_is_told() {
+    let text = file(DOCUMENT);
+    let text = text.to_str().unwrap();
+    let runs: [&[&str]; 6] = [
+        &[text],
+        &["--json", text],
+        &["order", text, "0", "1"],
+        &["order", "--json", text, "0", "1"],
+        &["--help"],
+        &["--version"],
+    ];
+    for arguments in runs {
+        for (to, why) in [(">/dev/full", "No space left on device"), (">&-", "it is closed")] {
+            let said = redirected(to, arguments);
+            let told = format!("judge: cannot write to standard output: {why}\n");
+            assert_eq!((said.status, said.err), (3, told), "{arguments:?} {to}");
+        }
+    }
+    // What is thrown away is not lost.
+    assert_eq!(redirected(">/dev/null", &[text]).status, 1);
+    assert_eq!(redirected("1<>/dev/null", &[text]).status, 1);
+    assert_eq!(redirected("2>&-", &[text]).status, 1);
+    assert_eq!(redirected(">/dev/full 2>&-", &[text]).status, 3);
+}
+
+#[test]
+fn a_reader_that_is_gone_is_told() {
+    let mut command = judge(["-"]);
+    command.stdin(Stdio::piped()).stdout(Stdio::piped()).stderr(Stdio::piped());
+    let mut child = command.spawn().unwrap();
+    // It writes when it has read all, and by then nobody reads.
+    drop(child.stdout.take());
+    child.stdin.take().unwrap().write_all(DOCUMENT.as_bytes()).unwrap();
+    let said = Said::from(child.wait_with_output().unwrap());
+    let told = "judge: cannot write to standard output: Broken pipe\n";
+    assert_eq!((said.status, said.err.as_str()), (3, told));
+}
+
+#[test]
+fn input_in_parts_is_put_together() {
+    let packed = binary([Event::fork(0, 1), Event::write(1, 5), Event::halt(1), Event::read(0, 5)]);
+    for bytes in [DOCUMENT.as_bytes(), &packed] {
+        let mut command = judge(["-"]);
+        command.stdin(Stdio::piped()).stdout(Stdio::piped()).stderr(Stdio::piped());
+        let mut child = command.spawn().unwrap();
+        let mut input = child.stdin.take().unwrap();
+        for byte in bytes {
+            input.write_all(&[*byte]).unwrap();
+        }
+        drop(input);
+        let said = Said::from(child.wait_with_output().unwrap());
+        assert_eq!((said.status, said.out.lines().next()), (1, Some("race 1 3")));
+    }
+}
+
+#[test]
+fn files_that_cannot_be_read_are_told() {
+    let folder = folder();
+    let link = folder.join("link");
+    symlink(&link, &link).unwrap();
+    let below = Path::new("/dev/null/below").to_path_buf();
+    let long = folder.join("x".repeat(300));
+    for (path, why) in [
+        (&*folder, "Is a directory"),
+        (&link, "Too many levels of symbolic links"),
+        (&below, "Not a directory"),
+        (&long, "File name too long"),
+    ] {
+        let said = run([path]);
+        let told = format!("judge: {} cannot be read: {why}\n", path.display());
+        assert_eq!((said.status, said.out.as_str(), said.err), (3, "", told));
+    }
+    let secret = folder.join("secret");
+    fs::write(&secret, DOCUMENT).unwrap();
+    fs::set_permissions(&secret, fs::Permissions::from_mode(0o0)).unwrap();
+    // Who may read everything judges it.
+    let wanted = if File::open(&secret).is_ok() { 1 } else { 3 };
+    assert_eq!(run([&secret]).status, wanted);
+}
+
+#[test]
+fn an_endless_input_is_answered() {
+    for (input, status, line) in [
+        ("/dev/zero", 3, ""),
+        ("/dev/full", 3, ""),
+        ("/dev/stdin", 2, "refused 14 0"),
+        ("-", 2, "refused 14 0"),
+    ] {
+        let mut command = judge([input]);
+        let mut child = Command::new("yes").stdout(Stdio::piped()).spawn().unwrap();
+        command.stdin(child.stdout.take().unwrap());
+        let said = finish(&mut command);
+        assert_eq!((said.status, said.out.lines().next().unwrap_or_default()), (status, line));
+        if status == 3 {
+            let told = "is too long for a binary trace: more than 1,048,576 bytes";
+            assert_eq!(said.err, format!("judge: {input} {told}\n"));
+        }
+        drop(command);
+        child.kill().unwrap();
+        child.wait().unwrap();
+    }
+}
+
+#[test]
+fn no_more_is_read_than_decides() {
+    for (byte, bytes_read) in [(b'x', TEXT_BYTES), (0, (1 << 20) + 1)] {
+        let long = file([byte].repeat(3 << 20));
+        // The command's standard input and this file have one position.
+        let mut input = File::open(&*long).unwrap();
+        finish(judge(["-"]).stdin(input.try_clone().unwrap()));
+        assert_eq!(input.stream_position().unwrap(), bytes_read as u64);
+    }
+}
+
+#[test]
+fn what_follows_the_bytes_that_decide_changes_nothing() {
+    let line = "T65535|fork(T65535)|65535\n";
+    let long = line.repeat(TEXT_BYTES / line.len());
+    assert_eq!(long.len(), TEXT_BYTES);
+    for more in ["", "x", "T0|r(V1)|1\n", "\0\0\0\0"] {
+        let said = run([&file(format!("{long}{more}"))]);
+        assert_eq!(
+            (said.status, said.out.lines().next()),
+            (2, Some("refused 15 2048")),
+            "{more:?}"
+        );
+    }
+}
+
+#[test]
+fn the_binary_form_takes_32768_events() {
+    let reads = |number| binary(repeat_n(Event::read(0, 5), number));
+    let said = run([&file(reads(MAX_EVENTS))]);
+    assert_eq!((said.status, said.out.lines().next()), (0, Some("clean 32768")));
+    let said = run([&file(reads(MAX_EVENTS + 1))]);
+    assert_eq!((said.status, said.out.lines().next()), (2, Some("refused 2 0")));
+    assert!(said.out.contains("The trace has 32769 events, from 0 to 32768."));
+    let said = run([&file(reads(0))]);
+    assert_eq!((said.status, said.out.lines().next()), (0, Some("clean 0")));
+}
+
+/// The bytes of a damaged binary trace are no trace, and there is no answer.
+#[track_caller]
+fn damaged(bytes: &[u8], why: &str) {
+    let path = file(bytes);
+    let said = run([&path]);
+    assert_eq!((said.status, said.out.as_str()), (3, ""));
+    let told = format!("judge: {} is a damaged binary trace: ", path.display());
+    let told = said.err.strip_prefix(&told).unwrap_or_else(|| panic!("{}", said.err));
+    assert!(told.contains(why), "{told}");
+}
+
+#[test]
+fn damaged_binary_traces_are_told() {
+    let whole = binary([Event::fork(0, 1), Event::write(1, 5)]);
+    // With its first byte alone it looks like a text.
+    for end in 2..8 {
+        damaged(&whole[..end], &format!("{end} bytes are no trace"));
+    }
+    for end in 8..whole.len() {
+        damaged(&whole[..end], "too short: 2 events take 18 bytes");
+    }
+    damaged(&[&whole[..], &[0]].concat(), "too long: 2 events take 18 bytes");
+    for byte in 4..whole.len() {
+        let mut changed = whole.clone();
+        changed[byte] ^= 1;
+        damaged(&changed, "the checksum is");
+    }
+    let mut more = whole.clone();
+    more[0] += 1;
+    damaged(&more, "too short: 3 events take 23 bytes");
+    damaged(&[0; 8], "the checksum is");
+}
+
+#[test]
+fn a_text_of_two_bytes_a_letter_is_known() {
+    for wide in [u16::to_le_bytes, u16::to_be_bytes] {
+        let marked = format!("\u{feff}{DOCUMENT}");
+        let bytes: Vec<u8> = marked.encode_utf16().flat_map(wide).collect();
+        let path = file(bytes);
+        let said = run([&path]);
+        let told = "is a text of two bytes a letter (UTF-16): save it as plain text";
+        assert_eq!((said.status, said.out.as_str()), (3, ""));
+        assert_eq!(said.err, format!("judge: {} {told}\n", path.display()));
+    }
+    // A trace that begins as such a text does is one.
+    for events in [0xfeff, 0xfffe] {
+        let said = run([&file(binary(repeat_n(Event::read(0, 5), events)))]);
+        assert_eq!((said.status, said.out.lines().next()), (2, Some("refused 2 0")));
+    }
+}
+
+/// A file of noise: of any bytes, of bytes that traces have, or a trace with some bytes changed.
+fn noise(rng: &mut Rng) -> Vec<u8> {
+    let length = rng.below(300);
+    let letters = b"T0123456789|rwforkjoin(V)\n\r\t \0\x1b\xff";
+    let whole = binary([Event::fork(0, 1), Event::write(1, 5), Event::halt(1), Event::read(0, 5)]);
+    match rng.below(4) {
+        0 => (0..length).map(|_| rng.cell(256) as u8).collect(),
+        1 => (0..length).map(|_| letters[rng.below(letters.len())]).collect(),
+        kind => {
+            let mut bytes = if kind == 2 { whole } else { DOCUMENT.as_bytes().to_vec() };
+            for _ in 0..rng.below(4) {
+                let at = rng.below(bytes.len());
+                bytes[at] = rng.cell(256) as u8;
+            }
+            bytes
+        }
+    }
+}
+
+#[test]
+fn noise_is_answered_or_told_and_nothing_panics() {
+    let mut rng = Rng::new(7);
+    let mut met = [0; 4];
+    for _ in 0..400 {
+        let bytes = noise(&mut rng);
+        let path = file(&bytes);
+        let words = run([&path]);
+        let json = run(["--json".as_ref(), path.as_os_str()]);
+        let order = run(["order".as_ref(), path.as_os_str(), "0".as_ref(), "1".as_ref()]);
+        assert_eq!(words.status, json.status, "{bytes:?}");
+        assert_eq!(words.out.is_empty(), words.status == 3, "{bytes:?}");
+        assert_eq!(words.err.is_empty(), words.status < 3, "{bytes:?}");
+        assert_eq!(order.status == 3, words.status == 3, "{bytes:?}");
+        common::json::Json::parse(json.out.trim_end()).expect("it is JSON");
+        assert!(words.out.bytes().all(|byte| matches!(byte, b'\n' | b' '..=b'~')), "{bytes:?}");
+        met[words.status as usize] += 1;
+    }
+    assert!(met[1] > 20 && met[2] > 100 && met[3] > 50, "{met:?}");
+}

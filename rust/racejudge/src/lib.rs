@@ -1,0 +1,90 @@
+//! A proved judge of data races in fork-join traces.
+//!
+//! A [`Trace`] is what one serial run of a fork-join program did, event by event. [`judge`] says
+//! whether two of its accesses could happen in either order; [`reaches`] whether a path of forks
+//! and joins leads from one event to another. The answers come from a library whose every answer
+//! is proved: *clean* means that there is no race, and not that none was seen.
+//!
+//! # A worked example
+//!
+//! Task 0 forks task 1, which writes location 5. Task 0 reads that location and has not joined
+//! task 1, so nothing orders the two:
+//!
+//! ```
+//! use racejudge::{judge, reaches, Trace, Verdict};
+//!
+//! let trace = Trace::from_text("T0|fork(T1)|10\nT1|w(V5)|20\nT0|r(V5)|30\n")?;
+//!
+//! // Halts have no lines: that of task 1 was put in where task 0 acts again.
+//! let events: Vec<String> = trace.events().map(|event| event.to_string()).collect();
+//! assert_eq!(events, ["0 fork 1", "1 write 5", "1 halt", "0 read 5"]);
+//!
+//! // Events 1 and 3 race. Two orders of the events differ only in which of them comes first.
+//! let Verdict::Race { s, t, first, second } = judge(&trace)? else { panic!("a race") };
+//! assert_eq!((s, t), (1, 3));
+//! assert_eq!((first, second), (vec![0, 1, 3, 2], vec![0, 3, 1, 2]));
+//! assert!(!reaches(&trace, s, t)?);
+//!
+//! // Where they stand in the source that was traced.
+//! let sources = [s, t].map(|p| trace.place(p).map(|place| place.source));
+//! assert_eq!(sources, [Some(20), Some(30)]);
+//!
+//! // With task 1 joined before the read there is a path, and no race.
+//! let joined = Trace::from_text("T0|fork(T1)|10\nT1|w(V5)|20\nT0|join(T1)|25\nT0|r(V5)|30\n")?;
+//! assert_eq!(judge(&joined)?, Verdict::Clean);
+//! assert!(reaches(&joined, 1, 4)?);
+//! # Ok::<(), racejudge::Refusal>(())
+//! ```
+//!
+//! # The rules of a trace
+//!
+//! At the start the line of tasks holds task 0 alone, and it runs. Only the running task acts. A
+//! fork puts the child, whose number is new, immediately left of its parent; the parent pauses and
+//! the child runs. A halt ends the running task: it stays in the line, and its paused parent runs
+//! again. After the halt of task 0 no event follows. A join takes the task immediately left of the
+//! running one out of the line. A trace may end anywhere. One that breaks a rule is refused, with
+//! the number of the rule and the event's position: [`Refusal`].
+//!
+//! # What there is
+//!
+//! Traces come from events ([`Trace::push`], `collect`), from slices ([`Trace::from_slices`]), from
+//! text ([`Trace::from_text`]) or from bytes ([`Trace::from_binary`]). No call panics on any of
+//! them, keeps anything between calls, or reads or writes a file. [`raw`] has the C interface
+//! itself, for callers who lend the buffers.
+
+#![warn(missing_docs)]
+#![deny(unsafe_code, unsafe_op_in_unsafe_fn)]
+
+mod binary;
+mod event;
+#[allow(unsafe_code)]
+pub mod raw;
+mod refusal;
+mod trace;
+mod verdict;
+
+pub use binary::Damage;
+pub use event::{Event, Kind, UnknownKind};
+pub use refusal::Refusal;
+pub use trace::{Place, Trace};
+pub use verdict::{judge, reaches, Verdict};
+
+/// The most events that a trace may have.
+pub const MAX_EVENTS: usize = 32_768;
+
+/// Task numbers go from 0 to one below this.
+pub const TASKS: usize = 1_024;
+
+/// Locations go from 0 to one below this.
+pub const LOCATIONS: usize = 1_024;
+
+/// The most events that a text may make, implied halts included.
+pub const MAX_TEXT_EVENTS: usize = 2_048;
+
+/// The longest line of a text, `T65535|fork(T65535)|65535` and its line feed.
+const LINE_BYTES: usize = 26;
+
+/// So many bytes of a text decide, whatever follows: each line makes an event, so the 2,049th line
+/// is refused by row 15 at the latest, and a line that is not of the form by row 14 before. Who
+/// reads a text from a file or a pipe need not read more.
+pub const TEXT_BYTES: usize = (MAX_TEXT_EVENTS + 1) * LINE_BYTES;

@@ -1,0 +1,248 @@
+//! The C interface of `include/racejudge.h`: no call allocates, and all buffers are lent.
+//!
+//! Every call takes any contents and any lengths: it refuses what it cannot work with, and writes
+//! within the lent slices alone.
+//!
+//! ```
+//! use racejudge::raw;
+//!
+//! let (mut workspace, mut first, mut second) = ([0; raw::WORKSPACE + 1], [0; 1], [0; 1]);
+//! let told = raw::judge(&[0], &[0], &[5], &mut workspace, &mut first, &mut second);
+//! assert_eq!((told.code, told.values), (raw::CLEAN, [0, 0]));
+//!
+//! let told = raw::judge(&[0], &[0], &[5], &mut [], &mut first, &mut second);
+//! assert_eq!((told.code, told.values), (raw::REFUSED, [3, 0]));
+//! ```
+
+/// The file name of the archive that is linked.
+pub const ARCHIVE: &str = env!("RACEJUDGE_ARCHIVE");
+
+/// The workspace has at least this many cells more than the trace has events.
+pub const WORKSPACE: usize = 12_288;
+
+/// The judge: no race, and the rules are kept.
+pub const CLEAN: u64 = 0;
+/// The judge: a race; the values are its two positions.
+pub const RACE: u64 = 1;
+/// The ordering call: no path.
+pub const NO: u64 = 0;
+/// The ordering call: a path.
+pub const YES: u64 = 1;
+/// The translation: a trace; the first value is the number of its events.
+pub const TRANSLATED: u64 = 0;
+/// All three calls: a refusal; the values are its row and position.
+pub const REFUSED: u64 = 2;
+/// The translation: a slice has fewer than [`MAX_TEXT_EVENTS`](crate::MAX_TEXT_EVENTS) cells.
+pub const SHORT: u64 = 3;
+
+/// What a call tells: the code that it returns and the two values that it stores.
+#[derive(Clone, Copy, Debug, PartialEq, Eq)]
+pub struct Told {
+    /// What the call returns.
+    pub code: u64,
+    /// What it stores: [`u64::MAX`] twice where it stores nothing, as no call of the library does.
+    pub values: [u64; 2],
+}
+
+impl Told {
+    /// What a call tells that returns a code and stores two values through the pointer.
+    #[inline]
+    fn by(call: impl FnOnce(&mut [u64; 2]) -> u64) -> Self {
+        let mut values = [u64::MAX; 2];
+        let code = call(&mut values);
+        Told { code, values }
+    }
+}
+
+/// The parameters of the three calls, once: for the type of a call, and for functions of that type
+/// under any name, as `foreign!(judge fn other_judge)`.
+#[doc(hidden)]
+#[macro_export]
+macro_rules! foreign {
+    (judge $($declared:tt)*) => {
+        $crate::foreign! { @[$($declared)*] (
+            kinds: *const u8, kinds_len: usize,
+            tasks: *const u16, tasks_len: usize,
+            operands: *const u16, operands_len: usize,
+            workspace: *mut u16, workspace_len: usize,
+            first: *mut u16, first_len: usize,
+            second: *mut u16, second_len: usize,
+            values: *mut [u64; 2],
+        ) }
+    };
+    (ordering $($declared:tt)*) => {
+        $crate::foreign! { @[$($declared)*] (
+            kinds: *const u8, kinds_len: usize,
+            tasks: *const u16, tasks_len: usize,
+            operands: *const u16, operands_len: usize,
+            workspace: *mut u16, workspace_len: usize,
+            p: usize, q: usize,
+            values: *mut [u64; 2],
+        ) }
+    };
+    (translate $($declared:tt)*) => {
+        $crate::foreign! { @[$($declared)*] (
+            text: *const u8, text_len: usize,
+            kinds: *mut u8, kinds_len: usize,
+            tasks: *mut u16, tasks_len: usize,
+            operands: *mut u16, operands_len: usize,
+            values: *mut [u64; 2],
+        ) }
+    };
+    (@[$(#[$meta:meta])* $visible:vis type $name:ident] $parameters:tt) => {
+        $(#[$meta])*
+        $visible type $name = unsafe extern "C" fn $parameters -> u64;
+    };
+    (@[$(#[$meta:meta])* $visible:vis fn $name:ident] $parameters:tt) => {
+        extern "C" {
+            $(#[$meta])*
+            $visible fn $name $parameters -> u64;
+        }
+    };
+}
+
+foreign!(judge
+    /// A function that judges a trace.
+    pub type JudgeCall);
+foreign!(ordering
+    /// A function that says whether one event reaches another.
+    pub type OrderingCall);
+foreign!(translate
+    /// A function that turns a text into a trace.
+    pub type TranslateCall);
+foreign!(judge
+    /// The library's [`judge`].
+    pub fn racejudge_judge);
+foreign!(ordering
+    /// The library's [`ordering`].
+    pub fn racejudge_ordering);
+foreign!(translate
+    /// The library's [`translate`].
+    pub fn racejudge_translate);
+
+/// Judges a trace. After a race the first t + 1 cells of `first` and `second` hold the two orders.
+pub fn judge(
+    kinds: &[u8],
+    tasks: &[u16],
+    operands: &[u16],
+    workspace: &mut [u16],
+    first: &mut [u16],
+    second: &mut [u16],
+) -> Told {
+    // Safe: the library's own function keeps within what it is lent, whatever that holds.
+    unsafe { judge_by(racejudge_judge, kinds, tasks, operands, workspace, first, second) }
+}
+
+/// Does event `p` reach event `q`?
+pub fn ordering(
+    kinds: &[u8],
+    tasks: &[u16],
+    operands: &[u16],
+    workspace: &mut [u16],
+    p: usize,
+    q: usize,
+) -> Told {
+    // Safe, as in `judge`.
+    unsafe { ordering_by(racejudge_ordering, kinds, tasks, operands, workspace, p, q) }
+}
+
+/// Text to a trace, whose events are stored at the start of the three slices.
+pub fn translate(text: &[u8], kinds: &mut [u8], tasks: &mut [u16], operands: &mut [u16]) -> Told {
+    // Safe, as in `judge`.
+    unsafe { translate_by(racejudge_translate, text, kinds, tasks, operands) }
+}
+
+/// [`judge`] by any function of that type.
+///
+/// # Safety
+///
+/// The function must be sound for slices of any contents and lengths, each given as a pointer and a
+/// length: it reads and writes within them alone, and writes only where the pointer is to `mut`.
+#[inline]
+pub unsafe fn judge_by(
+    call: JudgeCall,
+    kinds: &[u8],
+    tasks: &[u16],
+    operands: &[u16],
+    workspace: &mut [u16],
+    first: &mut [u16],
+    second: &mut [u16],
+) -> Told {
+    Told::by(|values| unsafe {
+        call(
+            kinds.as_ptr(),
+            kinds.len(),
+            tasks.as_ptr(),
+            tasks.len(),
+            operands.as_ptr(),
+            operands.len(),
+            workspace.as_mut_ptr(),
+            workspace.len(),
+            first.as_mut_ptr(),
+            first.len(),
+            second.as_mut_ptr(),
+            second.len(),
+            values,
+        )
+    })
+}
+
+/// [`ordering`] by any function of that type.
+///
+/// # Safety
+///
+/// As for [`judge_by`].
+#[inline]
+pub unsafe fn ordering_by(
+    call: OrderingCall,
+    kinds: &[u8],
+    tasks: &[u16],
+    operands: &[u16],
+    workspace: &mut [u16],
+    p: usize,
+    q: usize,
+) -> Told {
+    Told::by(|values| unsafe {
+        call(
+            kinds.as_ptr(),
+            kinds.len(),
+            tasks.as_ptr(),
+            tasks.len(),
+            operands.as_ptr(),
+            operands.len(),
+            workspace.as_mut_ptr(),
+            workspace.len(),
+            p,
+            q,
+            values,
+        )
+    })
+}
+
+/// [`translate`] by any function of that type.
+///
+/// # Safety
+///
+/// As for [`judge_by`].
+#[inline]
+pub unsafe fn translate_by(
+    call: TranslateCall,
+    text: &[u8],
+    kinds: &mut [u8],
+    tasks: &mut [u16],
+    operands: &mut [u16],
+) -> Told {
+    Told::by(|values| unsafe {
+        call(
+            text.as_ptr(),
+            text.len(),
+            kinds.as_mut_ptr(),
+            kinds.len(),
+            tasks.as_mut_ptr(),
+            tasks.len(),
+            operands.as_mut_ptr(),
+            operands.len(),
+            values,
+        )
+    })
+}

@@ -1,0 +1,99 @@
+//! Why a trace or a text is turned back.
+
+use crate::raw::Told;
+use std::error::Error;
+use std::fmt;
+
+/// Why a trace, a question about it or a text is turned back: the first condition of document 01's
+/// table that holds.
+///
+/// ```
+/// use racejudge::{judge, Event, Refusal, Trace};
+///
+/// let trace: Trace = [Event::fork(0, 1), Event::read(0, 7)].into_iter().collect();
+/// let refusal = judge(&trace).unwrap_err();
+/// assert_eq!(refusal, Refusal { row: 7, position: 1 });
+/// assert_eq!(refusal.meaning(), "the actor is not the running task");
+/// assert_eq!(
+///     refusal.to_string(),
+///     "event 1, counted from 0, is refused by row 7: the actor is not the running task"
+/// );
+/// ```
+#[derive(Clone, Copy, Debug, PartialEq, Eq, Hash)]
+pub struct Refusal {
+    /// The condition's number, 1 to 15.
+    pub row: usize,
+    /// The event for rows 5 to 12 and the text's line for rows 14 and 15, counted from 0; else 0.
+    pub position: usize,
+}
+
+/// What the position of a row counts.
+enum Counted {
+    Nothing,
+    Events,
+    Lines,
+    Unknown,
+}
+
+impl Refusal {
+    /// The refusal that a call told. What is no answer of that call is taken for one too, so that
+    /// nothing passes for clean by mistake.
+    pub(crate) fn told(told: Told) -> Self {
+        let [row, position] = told.values.map(|value| value as usize);
+        Refusal { row, position }
+    }
+
+    /// What the row refuses, as a clause.
+    pub fn meaning(&self) -> &'static str {
+        match self.row {
+            1 => "the three slices of the trace differ in length",
+            2 => "the trace has more than 32,768 events",
+            3 => "the workspace is too short for the trace",
+            4 => "an order buffer has fewer cells than the trace has events",
+            5 => "the kind is above 4",
+            6 => "task 0 has halted",
+            7 => "the actor is not the running task",
+            8 => "the location is above 1,023",
+            9 => "the forked number is above 1,023",
+            10 => "the forked number was used before",
+            11 => "the joined task is not the left neighbour of the actor",
+            12 => "the operand of the halt is not 0",
+            13 => "a position that was asked for is not below the number of events",
+            14 => {
+                "the line is not of the form `Ta|r(Vb)|c`, `Ta|w(Vb)|c`, `Ta|fork(Tb)|c` or \
+                 `Ta|join(Tb)|c` with numbers from 0 to 65,535 and a line feed at its end"
+            }
+            15 => "with this line the text makes more than 2,048 events",
+            _ => "no row of the table has this number",
+        }
+    }
+
+    fn counted(&self) -> Counted {
+        match self.row {
+            1..=4 | 13 => Counted::Nothing,
+            5..=12 => Counted::Events,
+            14 | 15 => Counted::Lines,
+            _ => Counted::Unknown,
+        }
+    }
+}
+
+/// One sentence, with no full stop: errors are often put behind a colon.
+impl fmt::Display for Refusal {
+    fn fmt(&self, f: &mut fmt::Formatter<'_>) -> fmt::Result {
+        let Refusal { row, position } = self;
+        match self.counted() {
+            Counted::Nothing => write!(f, "the call is refused by row {row}")?,
+            Counted::Events => {
+                write!(f, "event {position}, counted from 0, is refused by row {row}")?
+            }
+            Counted::Lines => {
+                write!(f, "line {position}, counted from 0, is refused by row {row}")?
+            }
+            Counted::Unknown => write!(f, "refused by row {row} at position {position}")?,
+        }
+        write!(f, ": {}", self.meaning())
+    }
+}
+
+impl Error for Refusal {}

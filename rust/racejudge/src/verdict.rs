@@ -1,0 +1,97 @@
+//! The two questions about a trace, with buffers of their own.
+
+use crate::raw::{self, WORKSPACE};
+use crate::{Refusal, Trace, MAX_EVENTS};
+
+/// What the judge says of a trace that keeps the rules up to the first race.
+#[derive(Clone, Debug, PartialEq, Eq)]
+pub enum Verdict {
+    /// The rules are kept, and every two accesses that conflict are joined by a path: whatever
+    /// order the cores take, each read sees the same write, and each location ends with the same
+    /// last one.
+    Clean,
+    /// Two accesses of one location, at least one of them a write, with no path between them.
+    Race {
+        /// The smallest position that `t` races with.
+        s: usize,
+        /// The first access that races with an earlier one.
+        t: usize,
+        /// An order of the events 0 to `t` that the cores may take, in which `s` comes immediately
+        /// before `t`.
+        first: Vec<u16>,
+        /// The same order with `t` immediately before `s`.
+        second: Vec<u16>,
+    },
+}
+
+/// Judges the whole trace: whether two of its accesses race.
+///
+/// ```
+/// use racejudge::{judge, Event, Trace, Verdict};
+///
+/// let mut trace = Trace::default();
+/// trace.extend([Event::fork(0, 1), Event::read(1, 5), Event::halt(1), Event::read(0, 5)]);
+/// assert_eq!(judge(&trace), Ok(Verdict::Clean));
+///
+/// trace.push(Event::write(0, 5));
+/// assert!(matches!(judge(&trace), Ok(Verdict::Race { s: 1, t: 4, .. })));
+/// ```
+///
+/// # Errors
+///
+/// A refusal by row 1 or 2 or, where no access before it races, by one of the rows 5 to 12.
+pub fn judge(trace: &Trace) -> Result<Verdict, Refusal> {
+    let n = judged_events(trace);
+    let (mut workspace, mut first, mut second) = (vec![0; WORKSPACE + n], vec![0; n], vec![0; n]);
+    let told = raw::judge(
+        trace.kinds(),
+        trace.tasks(),
+        trace.operands(),
+        &mut workspace,
+        &mut first,
+        &mut second,
+    );
+    match told.code {
+        raw::CLEAN => Ok(Verdict::Clean),
+        raw::RACE => {
+            let [s, t] = told.values.map(|value| value as usize);
+            first.truncate(t + 1);
+            second.truncate(t + 1);
+            Ok(Verdict::Race { s, t, first, second })
+        }
+        _ => Err(Refusal::told(told)),
+    }
+}
+
+/// Whether event `p` reaches event `q`: they are the same, or a path leads from `p` to `q`, from
+/// each event to the same task's next one, from a fork to its child's first event, and from a halt
+/// to the join that names its task. Races do not matter.
+///
+/// ```
+/// use racejudge::{reaches, Event, Trace};
+///
+/// let events = [Event::fork(0, 1), Event::halt(1), Event::write(0, 5), Event::join(0, 1)];
+/// let trace: Trace = events.into_iter().collect();
+/// assert_eq!(reaches(&trace, 1, 2), Ok(false));
+/// assert_eq!(reaches(&trace, 1, 3), Ok(true));
+/// assert_eq!(reaches(&trace, 3, 1), Ok(false));
+/// ```
+///
+/// # Errors
+///
+/// A refusal by one of the rows 1, 2 and 5 to 12; by row 13 where the trace keeps the rules, but
+/// `p` or `q` is not below the number of its events.
+pub fn reaches(trace: &Trace, p: usize, q: usize) -> Result<bool, Refusal> {
+    let mut workspace = vec![0; WORKSPACE + judged_events(trace)];
+    let told = raw::ordering(trace.kinds(), trace.tasks(), trace.operands(), &mut workspace, p, q);
+    match told.code {
+        raw::NO => Ok(false),
+        raw::YES => Ok(true),
+        _ => Err(Refusal::told(told)),
+    }
+}
+
+/// For how many events buffers are needed: a longer trace is refused before their lengths count.
+fn judged_events(trace: &Trace) -> usize {
+    trace.len().min(MAX_EVENTS)
+}

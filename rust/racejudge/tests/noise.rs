@@ -1,0 +1,131 @@
+//! Whatever comes in, something is said of it, and nothing panics.
+
+use racejudge::{judge, raw, reaches, Event, Trace, Verdict, MAX_TEXT_EVENTS};
+
+/// Pseudo-random numbers (splitmix64).
+struct Noise(u64);
+
+impl Noise {
+    fn draw(&mut self) -> u64 {
+        self.0 = self.0.wrapping_add(0x9e37_79b9_7f4a_7c15);
+        let mut z = self.0;
+        z = (z ^ (z >> 30)).wrapping_mul(0xbf58_476d_1ce4_e5b9);
+        z = (z ^ (z >> 27)).wrapping_mul(0x94d0_49bb_1331_11eb);
+        z ^ (z >> 31)
+    }
+
+    fn below(&mut self, bound: usize) -> usize {
+        (self.draw() % bound as u64) as usize
+    }
+
+    fn bytes(&mut self, most: usize) -> Vec<u8> {
+        let n = self.below(most + 1);
+        (0..n).map(|_| self.draw() as u8).collect()
+    }
+
+    /// An event of small numbers, so that rules are kept now and then.
+    fn event(&mut self) -> Event {
+        let [kind, task, operand] = [6, 3, 3].map(|bound| self.below(bound));
+        Event { kind: kind as u8, task: task as u16, operand: operand as u16 }
+    }
+
+    /// A line of the form, or nearly.
+    fn line(&mut self) -> String {
+        let [a, b, c] = [3, 3, 70_000].map(|bound| self.below(bound));
+        let form = ["r(V", "w(V", "fork(T", "join(T", "halt(T"][self.below(5)];
+        format!("T{a}|{form}{b})|{c}\n")
+    }
+}
+
+/// Every question that there is about a trace; what is said holds together.
+fn asked(trace: &Trace, noise: &mut Noise) {
+    let verdict = judge(trace);
+    if let Ok(Verdict::Race { s, t, first, second }) = &verdict {
+        assert!(s < t && *t < trace.len());
+        for order in [first, second] {
+            let mut sorted = order.clone();
+            sorted.sort_unstable();
+            assert!(sorted.into_iter().map(usize::from).eq(0..=*t));
+        }
+    }
+    let far = [0, noise.below(trace.len() + 2), usize::MAX][noise.below(3)];
+    let path = reaches(trace, noise.below(trace.len() + 1), far);
+    if verdict == Ok(Verdict::Clean) {
+        assert!(path.map_or_else(|refusal| refusal.row == 13, |_| true));
+    }
+    trace.events().for_each(|event| drop(event.to_string()));
+}
+
+#[test]
+fn traces() {
+    let noise = &mut Noise(1);
+    for _ in 0..3_000 {
+        let n = noise.below(40);
+        let trace: Trace = (0..n).map(|_| noise.event()).collect();
+        asked(&trace, noise);
+        let bytes = trace.to_binary().expect("slices of one length");
+        assert_eq!(Trace::from_binary(&bytes).as_ref(), Ok(&trace));
+        let mut cut = |most: usize| noise.below(most + 1);
+        let uneven = Trace::from_slices(
+            &trace.kinds()[..cut(n)],
+            &trace.tasks()[..cut(n)],
+            &trace.operands()[..cut(n)],
+        );
+        asked(&uneven, noise);
+    }
+}
+
+#[test]
+fn texts() {
+    let noise = &mut Noise(2);
+    let mut accepted = 0;
+    for _ in 0..3_000 {
+        let lines = noise.below(8);
+        let mut text: Vec<u8> = (0..lines).flat_map(|_| noise.line().into_bytes()).collect();
+        if noise.below(2) == 0 && !text.is_empty() {
+            let at = noise.below(text.len());
+            text[at] = noise.draw() as u8;
+        }
+        if let Ok(trace) = Trace::from_text(&text) {
+            accepted += 1;
+            assert!((0..trace.len()).all(|p| trace.place(p).is_some()));
+            asked(&trace, noise);
+        }
+        let bytes = noise.bytes(200);
+        assert_eq!(Trace::from_text(&bytes).is_ok(), bytes.is_empty());
+    }
+    assert!(accepted > 100, "{accepted}");
+}
+
+#[test]
+fn binaries() {
+    let noise = &mut Noise(3);
+    for _ in 0..3_000 {
+        let mut bytes = noise.bytes(100);
+        // Half of them with a length that fits.
+        if bytes.len() >= 8 && noise.below(2) == 0 {
+            let n = (bytes.len() - 8) / 5;
+            bytes.truncate(8 + 5 * n);
+            bytes[..4].copy_from_slice(&(n as u32).to_le_bytes());
+        }
+        let damage = Trace::from_binary(&bytes).expect_err("no checksum fits by chance");
+        assert!(!damage.to_string().is_empty());
+    }
+}
+
+#[test]
+fn lent_slices() {
+    let noise = &mut Noise(4);
+    for _ in 0..300 {
+        let text = noise.line();
+        let mut length = || MAX_TEXT_EVENTS - 2 + noise.below(4);
+        let (mut kinds, mut tasks, mut operands) =
+            (vec![9; length()], vec![9; length()], vec![9; length()]);
+        let short = [kinds.len(), tasks.len(), operands.len()].iter().any(|&n| n < MAX_TEXT_EVENTS);
+        let told = raw::translate(text.as_bytes(), &mut kinds, &mut tasks, &mut operands);
+        assert_eq!(told.code == raw::SHORT, short);
+        let n = if told.code == raw::TRANSLATED { told.values[0] as usize } else { 0 };
+        assert!(kinds[n..].iter().all(|&cell| cell == 9));
+        assert!(tasks[n..].iter().chain(&operands[n..]).all(|&cell| cell == 9));
+    }
+}

@@ -1,0 +1,128 @@
+//! Every row of document 01's table: how it is met, and what is said of it.
+
+use racejudge::{judge, raw, reaches, Event, Refusal, Trace, LOCATIONS, MAX_EVENTS, TASKS};
+use std::collections::HashSet;
+use std::error::Error;
+
+const FIRST: Event = Event::read(0, 0);
+
+fn trace(events: &[Event]) -> Trace {
+    events.iter().copied().collect()
+}
+
+/// Both calls refuse alike, whatever is asked.
+fn refused(trace: &Trace, row: usize, position: usize) {
+    let refusal = Refusal { row, position };
+    assert_eq!(judge(trace), Err(refusal));
+    assert_eq!(reaches(trace, 0, 0), Err(refusal));
+    assert_eq!(reaches(trace, usize::MAX, usize::MAX), Err(refusal));
+}
+
+#[test]
+fn rows_1_and_2() {
+    let (some, more) = ([0, 0], [0, 0, 0]);
+    refused(&Trace::from_slices(&[0, 0, 0], &some, &more), 1, 0);
+    refused(&Trace::from_slices(&[0, 0, 0], &more, &some), 1, 0);
+    refused(&Trace::from_slices(&[0, 0], &more, &more), 1, 0);
+    refused(&Trace::from_slices(&[0; MAX_EVENTS + 1], &[0; MAX_EVENTS], &[0; MAX_EVENTS]), 1, 0);
+    for n in [MAX_EVENTS + 1, 2 * MAX_EVENTS, 200_000] {
+        refused(&trace(&vec![FIRST; n]), 2, 0);
+    }
+    // Row 2 comes before what the events are.
+    refused(&Trace::from_slices(&vec![9; 70_000], &vec![9; 70_000], &vec![9; 70_000]), 2, 0);
+}
+
+#[test]
+fn rows_3_and_4_which_only_a_lender_meets() {
+    let (mut workspace, mut order) = ([7; raw::WORKSPACE], [7; 1]);
+    let told = raw::judge(&[0], &[0], &[0], &mut workspace, &mut [7], &mut order);
+    assert_eq!((told.code, told.values), (raw::REFUSED, [3, 0]));
+    let told = raw::ordering(&[0], &[0], &[0], &mut workspace, 0, 0);
+    assert_eq!((told.code, told.values), (raw::REFUSED, [3, 0]));
+    let mut workspace = [7; raw::WORKSPACE + 1];
+    let told = raw::judge(&[0], &[0], &[0], &mut workspace, &mut [], &mut order);
+    assert_eq!((told.code, told.values), (raw::REFUSED, [4, 0]));
+    assert_eq!((workspace, order), ([7; raw::WORKSPACE + 1], [7]));
+}
+
+#[test]
+fn rows_5_to_12() {
+    let (tasks, locations) = (TASKS as u16, LOCATIONS as u16);
+    for (last, row) in [
+        (Event { kind: 5, task: 0, operand: 0 }, 5),
+        (Event { kind: 255, task: 9, operand: 9 }, 5),
+        (Event::read(1, 0), 7),
+        (Event::halt(u16::MAX), 7),
+        (Event::read(0, locations), 8),
+        (Event::write(0, u16::MAX), 8),
+        (Event::fork(0, tasks), 9),
+        (Event::fork(0, 0), 10),
+        (Event::join(0, 1), 11),
+        (Event { operand: 3, ..Event::halt(0) }, 12),
+    ] {
+        refused(&trace(&[last]), row, 0);
+        refused(&trace(&[FIRST, FIRST, last, FIRST]), row, 2);
+        let mut long = vec![FIRST; MAX_EVENTS - 1];
+        long.push(last);
+        refused(&trace(&long), row, MAX_EVENTS - 1);
+    }
+    refused(&trace(&[Event::halt(0), FIRST]), 6, 1);
+    refused(&trace(&[Event::fork(0, 1), Event::halt(1), Event::fork(0, 1)]), 10, 2);
+}
+
+#[test]
+fn row_13() {
+    let refusal = Err(Refusal { row: 13, position: 0 });
+    let two = trace(&[FIRST, FIRST]);
+    for far in [2, 3, MAX_EVENTS, 65_536, usize::MAX / 2, usize::MAX - 1, usize::MAX] {
+        assert_eq!(reaches(&two, far, 0), refusal);
+        assert_eq!(reaches(&two, 0, far), refusal);
+        assert_eq!(reaches(&two, far, far), refusal);
+    }
+    assert_eq!(reaches(&Trace::default(), 0, 0), refusal);
+}
+
+#[test]
+fn rows_14_and_15() {
+    let line = "T0|w(V0)|1\n";
+    assert_eq!(Trace::from_text("x"), Err(Refusal { row: 14, position: 0 }));
+    assert_eq!(Trace::from_text(line.repeat(3_000)), Err(Refusal { row: 15, position: 2_048 }));
+}
+
+#[test]
+fn each_row_has_a_sentence_of_its_own() {
+    let refusals = || (1..=15).map(|row| Refusal { row, position: 4_711 });
+    let meanings: HashSet<&str> = refusals().map(|refusal| refusal.meaning()).collect();
+    assert_eq!(meanings.len(), 15);
+    for refusal in refusals() {
+        let (sentence, row) = (refusal.to_string(), refusal.row);
+        assert!(sentence.contains(&format!("row {row}:")), "{sentence}");
+        assert!(sentence.contains(refusal.meaning()), "{sentence}");
+        let named = match row {
+            5..=12 => "event 4711, counted from 0,",
+            14 | 15 => "line 4711, counted from 0,",
+            _ => "the call",
+        };
+        assert!(sentence.starts_with(named), "{sentence}");
+        assert_eq!(sentence.contains("4711"), named != "the call", "{sentence}");
+    }
+}
+
+#[test]
+fn a_row_that_is_not_known_is_told_too() {
+    for row in [0, 16, usize::MAX] {
+        let sentence = Refusal { row, position: usize::MAX }.to_string();
+        let start = format!("refused by row {row} at position {}: ", usize::MAX);
+        assert!(sentence.starts_with(&start), "{sentence}");
+    }
+}
+
+#[test]
+fn a_refusal_is_an_error() {
+    fn text_and_verdict() -> Result<(), Box<dyn Error>> {
+        judge(&Trace::from_text("T1|r(V0)|1\n")?)?;
+        Ok(())
+    }
+    let error = text_and_verdict().unwrap_err();
+    assert!(error.to_string().starts_with("event 0"), "{error}");
+}
