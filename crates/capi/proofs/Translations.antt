@@ -66,13 +66,17 @@ not-short b s =
     let operands : length (b .operands) < MAX-TEXT-EVENTS → ⊥ = λ h. none (inr (inr h)) in
     record { kinds = omega arith; tasks = omega arith; operands = omega arith }
 
-pub events-fit : (text : List ℕ) (b : Slices) → isShort b ≡ false → {kinds tasks operands : List ℕ} {count : ℕ} (h : Stored text kinds tasks operands count)
-    → (count ≤ MAX-TEXT-EVENTS) × (Room (slices kinds tasks operands) count × Room b count)
-events-fit text b s h =
+pub count-fits : {text kinds tasks operands : List ℕ} {count : ℕ} → Stored text kinds tasks operands count → count ≤ MAX-TEXT-EVENTS
+count-fits {text} h =
     let n = translation-at-most text (h .events) (h .accepted) in
     let m = h .counted in
+    omega arith
+
+pub lent-room : (b : Slices) → isShort b ≡ false → {text kinds tasks operands : List ℕ} {count : ℕ} → Stored text kinds tasks operands count → Room b count
+lent-room b s h =
     let room = not-short b s in
-    (omega arith, (h .room, record { kinds = omega arith; tasks = omega arith; operands = omega arith }))
+    let n = count-fits h in
+    record { kinds = omega arith; tasks = omega arith; operands = omega arith }
 
 -- ---- the copy
 
@@ -95,9 +99,7 @@ pub told-events : (text : List ℕ) (b : Slices) → isShort b ≡ false → {ki
     → translateSeen 0 (count ∷ 0 ∷ []) after ≡ translateCall text b
 unfolding translateCall translationCall translationTold translated
 told-events text b s {kinds} {tasks} {operands} {count} h after e =
-    let n = translation-at-most text (h .events) (h .accepted) in
-    let room = not-short b s in
-    let fits : Room b (length (h .events)) = record { kinds = omega arith; tasks = omega arith; operands = omega arith } in
+    let fits : Room b (length (h .events)) = rw (← (h .counted)) (lent-room b s h) in
     let same =
     all-copied b (h .events) kinds tasks operands count (h .counted) (h .kinds-are) (h .tasks-are) (h .operands-are) (slices-hold b (h .events) fits) in
     rw (s, h .accepted, e ∙ same, h .counted)

@@ -80,7 +80,7 @@ fn line(file: &OsStr, mut fields: Fields) -> String {
 fn head(word: &str, line: String, scene: Option<&Scene>) -> Fields {
     vec![
         ("answer", word.into()),
-        ("line", line.into()),
+        ("said", line.into()),
         ("events", scene.map(|scene| scene.trace.len()).into()),
         ("tasks", scene.map(|scene| scene.graph.columns().len()).into()),
     ]

@@ -1,6 +1,6 @@
 //! Words for events, tasks, numbers and bytes.
 
-use racejudge::{Event, Kind};
+use racejudge::{Event, Kind, Place, Trace};
 use std::ffi::OsStr;
 
 /// What the event does, in words.
@@ -15,6 +15,14 @@ pub fn deed(event: Event) -> String {
         Some(Kind::Halt) => format!("task {task} halts, with the operand {operand}"),
         None => format!("task {task} does something of kind {kind} with {operand}"),
     }
+}
+
+/// The line that made event p, from 1 as people count, and its source line. A halt has none: it was
+/// put in before that of the event behind it.
+pub fn place(trace: &Trace, p: usize) -> Option<Place> {
+    let made = trace.event(p)?.kind() != Some(Kind::Halt);
+    let place = trace.place(p).filter(|_| made)?;
+    Some(Place { line: place.line + 1, ..place })
 }
 
 /// `task 5`, or `tasks 5, 4 and 3`; of many the first few and the last.
@@ -34,12 +42,12 @@ fn list(numbers: &[u16]) -> String {
     numbers.iter().map(u16::to_string).collect::<Vec<_>>().join(", ")
 }
 
-/// `1 event`, `2 events`.
+/// `1 event`, `1,234 events`.
 pub fn count(number: usize, one: &str) -> String {
-    format!("{number} {one}{}", if number == 1 { "" } else { "s" })
+    format!("{} {one}{}", grouped(number), if number == 1 { "" } else { "s" })
 }
 
-/// A limit as people write it, `32,768`.
+/// A number as people write it, `32,768`.
 pub fn grouped(number: usize) -> String {
     match number {
         0..1_000 => number.to_string(),

@@ -2,9 +2,10 @@
 
 use crate::answer::{self, Answer};
 use crate::graph::Graph;
+use crate::phrases::place;
 use crate::recording::Recording;
 use crate::why::Why;
-use racejudge::{reaches, Kind, Place, Refusal, Trace, Verdict};
+use racejudge::{reaches, Place, Refusal, Trace, Verdict};
 
 /// A trace, its graph as far as it keeps the rules, and where it was recorded.
 pub struct Scene<'a> {
@@ -28,12 +29,8 @@ impl<'a> Scene<'a> {
         self.trace.event(p).map_or(0, |event| event.task)
     }
 
-    /// The line that made the event, from 1 as people count, and its source line. A halt has none:
-    /// it was put in before that of the event behind it.
     pub fn place(&self, p: usize) -> Option<Place> {
-        let made = self.trace.event(p)?.kind() != Some(Kind::Halt);
-        let place = self.trace.place(p).filter(|_| made)?;
-        Some(Place { line: place.line + 1, ..place })
+        place(self.trace, p)
     }
 
     /// The line's text.

@@ -1,12 +1,13 @@
-//! What the command says of each text of examples/, in words and as JSON, against tests/expected.
+//! What the command says of each text of examples/, in words and as JSON, against tests/expected;
+//! the picture that is kept; and what the documents show of them.
 //!
-//! With JUDGE_EXPECTED=write in the environment the expected files are written anew, to be read
-//! through before they are kept.
+//! With JUDGE_EXPECTED=write in the environment the expected files and the picture are written anew,
+//! to be read through before they are kept.
 
 mod common;
 
 use common::json::Json;
-use common::{finish, judge, Said};
+use common::{finish, folder, judge, Said};
 use std::collections::BTreeSet;
 use std::env;
 use std::fs;
@@ -34,14 +35,12 @@ fn say(name: &str, options: &[&str]) -> Said {
 }
 
 #[track_caller]
-fn hold(name: &str, end: &str, said: &Said) {
-    let path = expected(&format!("{name}{end}"));
+fn hold(path: &Path, found: &str) {
     if env::var("JUDGE_EXPECTED").is_ok_and(|it| it == "write") {
-        fs::write(&path, &said.out).expect("an expected file can be written");
+        fs::write(path, found).expect("an expected file can be written");
     }
-    let wanted = fs::read_to_string(&path).unwrap_or_default();
-    assert_eq!(said.out, wanted, "{} differs from what is said now", path.display());
-    assert_eq!(said.err, "");
+    let wanted = fs::read_to_string(path).unwrap_or_default();
+    assert_eq!(found, wanted, "{} differs from what comes now", path.display());
 }
 
 /// The status that belongs to an answer's first line.
@@ -59,7 +58,8 @@ fn each(end: &str, options: &[&str], check: impl Fn(&str, &Said)) {
     assert!(texts.len() >= 8, "{texts:?}");
     for name in &texts {
         let said = say(name, options);
-        hold(name, end, &said);
+        hold(&expected(&format!("{name}{end}")), &said.out);
+        assert_eq!(said.err, "");
         check(name, &said);
     }
     assert_eq!(names(&expected(""), end), texts, "{end}");
@@ -82,9 +82,30 @@ fn each_example_is_told_in_words() {
 fn each_example_is_told_as_json() {
     each(".json", &["--json"], |name, said| {
         let object = Json::parse(said.out.trim_end()).expect("it is JSON");
-        assert_eq!(said.status, status(object.field("line").text()), "{name}");
+        assert_eq!(said.status, status(object.field("said").text()), "{name}");
         assert_eq!(object.field("file").text(), format!("{name}.std"));
     });
+}
+
+/// The one that is kept beside the examples, for the README.
+#[test]
+fn the_picture_is_the_one_that_is_kept() {
+    let folder = folder();
+    let path = folder.join("picture.svg");
+    let said = say("pipeline_race", &["--svg", path.to_str().expect("a plain path")]);
+    assert_eq!((said.status, said.err.as_str()), (1, ""));
+    let drawn = fs::read_to_string(path).expect("the picture is there");
+    hold(&examples().join("pipeline_race.svg"), &drawn);
+}
+
+/// The first thing that a newcomer reads is what the command says.
+#[test]
+fn the_readme_shows_what_is_said() {
+    let readme = fs::read_to_string(examples().join("../README.md")).expect("it can be read");
+    let said = fs::read_to_string(expected("pipeline_race.txt")).expect("it can be read");
+    let indented = |line: &str| if line.is_empty() { "\n".into() } else { format!("    {line}\n") };
+    let shown: String = said.lines().map(indented).collect();
+    assert!(readme.contains(&shown), "README.md does not show\n{shown}");
 }
 
 /// The README of the examples has the first line of each.

@@ -181,7 +181,7 @@ fn the_binary_form_takes_32768_events() {
     assert_eq!((said.status, said.out.lines().next()), (0, Some("clean 32768")));
     let said = run([&file(reads(MAX_EVENTS + 1))]);
     assert_eq!((said.status, said.out.lines().next()), (2, Some("refused 2 0")));
-    assert!(said.out.contains("The trace has 32769 events, from 0 to 32768."));
+    assert!(said.out.contains("The trace has 32,769 events, from 0 to 32768."));
     let said = run([&file(reads(0))]);
     assert_eq!((said.status, said.out.lines().next()), (0, Some("clean 0")));
 }

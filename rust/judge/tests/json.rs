@@ -53,11 +53,11 @@ fn a_race_has_all_its_fields() {
     let [race] = &objects(&said.out)[..] else { panic!("{said:?}") };
     assert_eq!((said.status, said.err.as_str()), (1, ""));
     let names = [
-        "answer", "events", "file", "first", "line", "location", "s", "second", "t", "tasks", "why",
+        "answer", "events", "file", "first", "location", "s", "said", "second", "t", "tasks", "why",
     ];
     assert_eq!(race.names(), names);
     assert_eq!(race.field("file").text(), path.to_str().unwrap());
-    assert_eq!(race.field("line").text(), "race 1 3");
+    assert_eq!(race.field("said").text(), "race 1 3");
     assert_eq!(race.field("events").number(), 4);
     assert_eq!(race.field("tasks").number(), 2);
     assert_eq!(race.field("location").number(), 5);
@@ -98,10 +98,10 @@ fn a_refusal_has_the_event_or_the_line() {
             "event",
             "events",
             "file",
-            "line",
             "meaning",
             "position",
             "row",
+            "said",
             "state",
             "tasks",
             "text_line",
@@ -169,9 +169,9 @@ fn a_question_has_a_path_or_a_reason() {
         (said.status, objects(&said.out).remove(0))
     };
     let (status, yes) = ask("0".as_ref(), "2".as_ref());
-    let names = ["answer", "events", "file", "line", "p", "path", "q", "reverse", "tasks", "why"];
+    let names = ["answer", "events", "file", "p", "path", "q", "reverse", "said", "tasks", "why"];
     assert_eq!((status, yes.names()), (0, names.to_vec()));
-    assert_eq!(yes.field("line").text(), "yes");
+    assert_eq!(yes.field("said").text(), "yes");
     assert_eq!(yes.field("path").numbers(), [0, 1, 2]);
     assert_eq!(yes.field("why"), &Json::Null);
     let (status, no) = ask("1".as_ref(), "3".as_ref());
@@ -180,5 +180,5 @@ fn a_question_has_a_path_or_a_reason() {
     assert_eq!(no.field("path"), &Json::Null);
     assert_eq!(no.field("why").field("unjoined").numbers(), [1]);
     let (status, refused) = ask("1".as_ref(), "4".as_ref());
-    assert_eq!((status, refused.field("line").text()), (2, "refused 13 0"));
+    assert_eq!((status, refused.field("said").text()), (2, "refused 13 0"));
 }

@@ -36,7 +36,7 @@ fn row_2_is_a_trace_that_is_too_long() {
     refused(
         reads,
         "refused 2 0",
-        &["more than 32,768 events", "The trace has 32769 events, from 0 to 32768."],
+        &["more than 32,768 events", "The trace has 32,769 events, from 0 to 32768."],
     );
 }
 

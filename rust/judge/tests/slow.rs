@@ -83,7 +83,7 @@ fn answer_in(words: &str) -> String {
 /// The same from an object.
 fn answer_of(object: &str) -> String {
     let object = Json::parse(object.trim_end()).expect("it is JSON");
-    let mut answer = format!("{}\n", object.field("line").text());
+    let mut answer = format!("{}\n", object.field("said").text());
     if object.field("answer").text() == "race" {
         for order in ["first", "second"] {
             let order = object.field(order).numbers();

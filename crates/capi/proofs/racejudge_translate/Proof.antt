@@ -4,7 +4,7 @@ use native.Mathlib.Omega.{arith}
 use mathlib.Core.Path.{_∙_}
 use borrow.Author.Needs.{needs}
 use Rattle.text.proofs.Stored.{fresh-sized, stored, said-refusal}
-use Rattle.capi.proofs.Translations.{with-meaning, lengths-short, told-short, told-refusal, told-events, events-fit}
+use Rattle.capi.proofs.Translations.{with-meaning, lengths-short, told-short, told-refusal, told-events, count-fits, lent-room}
 use Rattle.capi.proofs.racejudge_translate.Statement.{statement}
 use Rattle.capi.proofs.racejudge_translate.Tie as tie
 
@@ -19,8 +19,13 @@ copy-events-requires c κs =
     let translated = matched .before .before in
     let long = translated .before .before .before .before in
     let held = stored _ _ fresh-sized _ _ _ _ (translated .translate .ensures .0) _ (matched .translation .given .1) in
-    let fit = events-fit _ _ (lengths-short _ _ _ (long .before .is-short .ensures) ∙ long .if1 .left) held in
-    (fit .0, (record { kinds = omega arith; tasks = omega arith; operands = omega arith }, fit .1 .1))
+    let room = held .room in (
+      count-fits held,
+      (
+        record { kinds = omega arith; tasks = omega arith; operands = omega arith },
+        lent-room _ (lengths-short _ _ _ (long .before .is-short .ensures) ∙ long .if1 .left) held,
+      ),
+    )
 
 returns-2 : tie.Need-returns-2
 returns-2 c =

@@ -4,8 +4,8 @@ use super::canvas::Canvas;
 use super::layout::{gap_words, Layout, Row, LABEL_GAP, MARGIN, ROW, SIGN_GAP};
 use super::lines::{lines, missing_join};
 use super::story::{Mark, Story, Tone};
-use super::text::grouped;
 use super::words::{label, NO_ORDER};
+use crate::phrases::grouped;
 use racejudge::{Event, Kind};
 
 pub struct Figure<'a> {

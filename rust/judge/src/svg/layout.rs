@@ -3,8 +3,9 @@
 
 use super::choice::Choice;
 use super::story::{Mark, Story};
-use super::text::{bold_width, counted, width};
+use super::text::{bold_width, width};
 use super::words::{label, NO_ORDER};
+use crate::phrases::count;
 use std::collections::HashMap;
 
 pub const MARGIN: i32 = 28;
@@ -222,5 +223,5 @@ fn table(story: &Story, rows: &[Row]) -> Table {
 }
 
 pub fn gap_words(events: usize) -> String {
-    format!("⋮ {} not drawn", counted(events, "event"))
+    format!("⋮ {} not drawn", count(events, "event"))
 }

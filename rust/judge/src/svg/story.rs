@@ -2,8 +2,9 @@
 
 use crate::answer::Answer;
 use crate::graph::Graph;
+use crate::phrases::place;
 use crate::why::Why;
-use racejudge::{Kind, Refusal, Trace, Verdict};
+use racejudge::{Refusal, Trace, Verdict};
 
 /// How an event or an arc concerns the race. The order is that of painting: the last is on top.
 #[derive(Clone, Copy, Debug, PartialEq, Eq, PartialOrd, Ord)]
@@ -172,8 +173,6 @@ impl<'a> Story<'a> {
 
     /// The text line, counted from 1, and the source line. A halt has no line of the text.
     pub fn place(&self, p: usize) -> Option<(usize, u16)> {
-        let is_halt = self.trace.event(p)?.kind() == Some(Kind::Halt);
-        let place = self.trace.place(p).filter(|_| !is_halt)?;
-        Some((place.line + 1, place.source))
+        place(self.trace, p).map(|place| (place.line, place.source))
     }
 }

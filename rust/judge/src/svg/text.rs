@@ -1,4 +1,4 @@
-//! Text for a picture: escaped for XML, measured, wrapped, and numbers as people read them.
+//! Text for a picture: escaped for XML, measured and wrapped.
 
 /// What may stand in the text or in an attribute of XML 1.0.
 pub fn escape(text: &str) -> String {
@@ -85,21 +85,4 @@ pub fn shorten(text: &str, size: i32, limit: i32) -> String {
     }
     let part = |part: &[char]| part.iter().collect::<String>();
     format!("{}…{}", part(&chars[..start]), part(&chars[end..]))
-}
-
-/// A number with a comma before each three digits: 32,768.
-pub fn grouped(number: usize) -> String {
-    let mut digits = number.to_string();
-    let mut at = digits.len();
-    while at > 3 {
-        at -= 3;
-        digits.insert(at, ',');
-    }
-    digits
-}
-
-/// `1 event`, `1,234 events`.
-pub fn counted(number: usize, thing: &str) -> String {
-    let ending = if number == 1 { "" } else { "s" };
-    format!("{} {thing}{ending}", grouped(number))
 }

@@ -1,8 +1,8 @@
 //! The words of a picture.
 
 use super::story::{Mark, Story};
-use super::text::grouped;
 use crate::answer;
+use crate::phrases::{capital, deed, grouped};
 use racejudge::{Event, Kind, Refusal, Verdict};
 
 /// What connects the two accesses of a race.
@@ -18,7 +18,7 @@ impl Story<'_> {
         let (s, _) = self.pair.unwrap_or_default();
         Some(match self.mark(p)? {
             Mark::Racing => {
-                let act = self.trace.event(p).map(sentence)?;
+                let act = self.trace.event(p).map(deed)?;
                 let place = self.place(p).map(|(_, source)| format!(", source line {source}"));
                 act + &place.unwrap_or_default()
             }
@@ -79,7 +79,7 @@ impl Story<'_> {
     }
 
     fn refusal_summary(&self, refusal: &Refusal) -> Vec<String> {
-        let mut told = vec![format!("{}.", capitalized(&refusal.to_string()))];
+        let mut told = vec![format!("{}.", capital(&refusal.to_string()))];
         if let Some(p) = self.refused {
             told.extend(self.instead(refusal.row, p));
             told.push(format!("No two accesses before event {p} race."));
@@ -88,7 +88,7 @@ impl Story<'_> {
     }
 
     fn race_summary(&self, s: usize, t: usize) -> Vec<String> {
-        let act = |p: usize| self.trace.event(p).map(sentence).unwrap_or_default();
+        let act = |p: usize| self.trace.event(p).map(deed).unwrap_or_default();
         let mut told = vec![format!(
             "Event {s} ({}) and event {t} ({}): no path of forks and joins leads from one to the \
              other, so either can come first.",
@@ -96,7 +96,7 @@ impl Story<'_> {
             act(t)
         )];
         if let Some(why) = self.why {
-            let fork = self.trace.event(why.parted).map(sentence).unwrap_or_default();
+            let fork = self.trace.event(why.parted).map(deed).unwrap_or_default();
             told.push(format!("The ways to them part at event {} ({fork}).", why.parted));
             told.extend(self.lacking(t));
         }
@@ -111,7 +111,7 @@ impl Story<'_> {
 
     /// All of an event, for who points at it and for screen readers.
     pub fn tooltip(&self, p: usize) -> String {
-        let act = self.trace.event(p).map(sentence).unwrap_or_default();
+        let act = self.trace.event(p).map(deed).unwrap_or_default();
         match self.place(p) {
             Some((line, source)) => {
                 format!("event {p}: {act} (text line {line}, source line {source})")
@@ -133,25 +133,6 @@ impl Story<'_> {
         };
         let (events, tasks) = (of(events, all_events), of(tasks, all_tasks));
         Some(format!("{purpose}: {events} events and {tasks} tasks."))
-    }
-}
-
-fn capitalized(sentence: &str) -> String {
-    let mut chars = sentence.chars();
-    let first = chars.next().map(|c| c.to_ascii_uppercase());
-    first.into_iter().chain(chars).collect()
-}
-
-/// What an event does, in words.
-pub fn sentence(event: Event) -> String {
-    let Event { kind, task, operand } = event;
-    match event.kind() {
-        Some(Kind::Read) => format!("task {task} reads location {operand}"),
-        Some(Kind::Write) => format!("task {task} writes location {operand}"),
-        Some(Kind::Fork) => format!("task {task} forks task {operand}"),
-        Some(Kind::Join) => format!("task {task} joins task {operand}"),
-        Some(Kind::Halt) => format!("task {task} halts"),
-        None => format!("task {task}, kind {kind}, operand {operand}"),
     }
 }
 
