@@ -44,14 +44,21 @@ pub struct Told {
     pub values: [u64; 2],
 }
 
-impl Told {
-    /// What a call tells that returns a code and stores two values through the pointer.
-    #[inline]
-    fn by(call: impl FnOnce(&mut [u64; 2]) -> u64) -> Self {
+/// What a call tells that is handed the slices, those that it reads and those that it writes, each
+/// as a pointer and a length, then the rest, and last where it stores its two values.
+macro_rules! told {
+    ($call:ident, [$($read:ident),*], [$($written:ident),*] $(, $rest:expr)*) => {{
         let mut values = [u64::MAX; 2];
-        let code = call(&mut values);
+        let code = unsafe {
+            $call(
+                $($read.as_ptr(), $read.len(),)*
+                $($written.as_mut_ptr(), $written.len(),)*
+                $($rest,)*
+                &mut values,
+            )
+        };
         Told { code, values }
-    }
+    }};
 }
 
 /// The parameters of the three calls, once: for the type of a call, and for functions of that type
@@ -107,9 +114,6 @@ foreign!(judge
 foreign!(ordering
     /// A function that says whether one event reaches another.
     pub type OrderingCall);
-foreign!(translate
-    /// A function that turns a text into a trace.
-    pub type TranslateCall);
 foreign!(judge
     /// The library's [`judge`].
     pub fn racejudge_judge);
@@ -149,7 +153,7 @@ pub fn ordering(
 /// Text to a trace, whose events are stored at the start of the three slices.
 pub fn translate(text: &[u8], kinds: &mut [u8], tasks: &mut [u16], operands: &mut [u16]) -> Told {
     // Safe, as in `judge`.
-    unsafe { translate_by(racejudge_translate, text, kinds, tasks, operands) }
+    told!(racejudge_translate, [text], [kinds, tasks, operands])
 }
 
 /// [`judge`] by any function of that type.
@@ -168,23 +172,7 @@ pub unsafe fn judge_by(
     first: &mut [u16],
     second: &mut [u16],
 ) -> Told {
-    Told::by(|values| unsafe {
-        call(
-            kinds.as_ptr(),
-            kinds.len(),
-            tasks.as_ptr(),
-            tasks.len(),
-            operands.as_ptr(),
-            operands.len(),
-            workspace.as_mut_ptr(),
-            workspace.len(),
-            first.as_mut_ptr(),
-            first.len(),
-            second.as_mut_ptr(),
-            second.len(),
-            values,
-        )
-    })
+    told!(call, [kinds, tasks, operands], [workspace, first, second])
 }
 
 /// [`ordering`] by any function of that type.
@@ -202,47 +190,5 @@ pub unsafe fn ordering_by(
     p: usize,
     q: usize,
 ) -> Told {
-    Told::by(|values| unsafe {
-        call(
-            kinds.as_ptr(),
-            kinds.len(),
-            tasks.as_ptr(),
-            tasks.len(),
-            operands.as_ptr(),
-            operands.len(),
-            workspace.as_mut_ptr(),
-            workspace.len(),
-            p,
-            q,
-            values,
-        )
-    })
-}
-
-/// [`translate`] by any function of that type.
-///
-/// # Safety
-///
-/// As for [`judge_by`].
-#[inline]
-pub unsafe fn translate_by(
-    call: TranslateCall,
-    text: &[u8],
-    kinds: &mut [u8],
-    tasks: &mut [u16],
-    operands: &mut [u16],
-) -> Told {
-    Told::by(|values| unsafe {
-        call(
-            text.as_ptr(),
-            text.len(),
-            kinds.as_mut_ptr(),
-            kinds.len(),
-            tasks.as_mut_ptr(),
-            tasks.len(),
-            operands.as_mut_ptr(),
-            operands.len(),
-            values,
-        )
-    })
+    told!(call, [kinds, tasks, operands], [workspace], p, q)
 }
