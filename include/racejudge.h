@@ -9,7 +9,8 @@
  * slice of the same call.
  *
  * No call keeps anything between calls: what it answers and leaves depends on what it is lent alone,
- * and threads may call at the same time, each with buffers of its own.
+ * and threads may call at the same time, each with buffers of its own. racejudge_translate takes some
+ * 25,000 bytes of the stack, the other two less than 1,000.
  *
  * A TRACE is three slices of one length. Entry p of each makes event p; positions count from 0.
  *   kinds     RACEJUDGE_READ .. RACEJUDGE_HALT
@@ -75,7 +76,7 @@ enum { RACEJUDGE_READ, RACEJUDGE_WRITE, RACEJUDGE_FORK, RACEJUDGE_JOIN, RACEJUDG
 #define RACEJUDGE_MAX_EVENTS 32768
 #define RACEJUDGE_WORKSPACE 12288
 
-/* The most events that a text makes, and the cells that each slice has which one is translated to. */
+/* The most events that a text makes: each slice that one is translated to has so many cells at least. */
 #define RACEJUDGE_TEXT_EVENTS 2048
 
 /* What racejudge_judge returns. */
@@ -94,8 +95,10 @@ enum { RACEJUDGE_REFUSED = 2 };
  *   RACEJUDGE_CLEAN     0, 0           the rules are kept, and every two accesses that conflict are
  *                                      ordered
  *   RACEJUDGE_RACE      s, t           t is the first access that races with an earlier one, s the
- *                                      smallest position that it races with
+ *                                      smallest position that it races with; what follows t is not
+ *                                      looked at
  *   RACEJUDGE_REFUSED   number, position
+ *                                      no two accesses before that event race
  *
  * The order buffers have at least as many cells as the trace has events. After a race the first t + 1
  * cells of each hold an order of the events 0 to t that keeps every arc: first the other events that
@@ -122,8 +125,8 @@ uint64_t racejudge_ordering(const uint8_t *kinds, size_t kinds_len, const uint16
  *   RACEJUDGE_REFUSED      number, line     number is 14 or 15
  *   RACEJUDGE_SHORT        0, 0             a slice has fewer than RACEJUDGE_TEXT_EVENTS cells. This is
  *                                           asked first: whatever the text, it is not looked at
- * The cells past the events are unchanged, and all cells after the other two answers. No trace that
- * keeps the rules is promised: racejudge_judge says whether this one does. */
+ * The cells past the events are unchanged; after the other two answers all cells are. Whether the trace
+ * keeps the rules is not asked here: racejudge_judge says so. */
 uint64_t racejudge_translate(const uint8_t *text, size_t text_len, uint8_t *kinds, size_t kinds_len,
                              uint16_t *tasks, size_t tasks_len, uint16_t *operands,
                              size_t operands_len, uint64_t values[2]);

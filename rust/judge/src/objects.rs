@@ -20,12 +20,7 @@ pub fn unread(file: &OsStr, wrong: &str) -> String {
 
 /// A file that was judged.
 pub fn judged(file: &OsStr, study: &Study, picture: &Picture) -> String {
-    let word = match &study.answer {
-        Ok(Verdict::Clean) => "clean",
-        Ok(Verdict::Race { .. }) => "race",
-        Err(_) => "refused",
-    };
-    let mut fields = head(word, study.line(), study.scene.as_ref());
+    let mut fields = head(study.line(), study.scene.as_ref());
     match &study.answer {
         Err(refusal) => {
             fields.extend(refused(study.recording, study.scene.as_ref(), refusal));
@@ -45,12 +40,7 @@ pub fn judged(file: &OsStr, study: &Study, picture: &Picture) -> String {
 
 /// An answer to a question.
 pub fn asked(file: &OsStr, question: &Question) -> String {
-    let word = match &question.answer {
-        Ok(true) => "yes",
-        Ok(false) => "no",
-        Err(_) => "refused",
-    };
-    let mut fields = head(word, question.line(), question.scene.as_ref());
+    let mut fields = head(question.line(), question.scene.as_ref());
     match (&question.answer, &question.scene) {
         (Err(refusal), scene) => {
             fields.extend(refused(question.recording, scene.as_ref(), refusal));
@@ -76,8 +66,9 @@ fn line(file: &OsStr, mut fields: Fields) -> String {
     format!("{}\n", Json::Object(fields))
 }
 
-/// What every answer has.
-fn head(word: &str, line: String, scene: Option<&Scene>) -> Fields {
+/// What every answer has: the first word of its own line, the line, and how much there is.
+fn head(line: String, scene: Option<&Scene>) -> Fields {
+    let word = line.split(' ').next().unwrap_or_default();
     vec![
         ("answer", word.into()),
         ("said", line.into()),

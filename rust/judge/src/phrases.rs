@@ -72,17 +72,40 @@ pub fn visible(line: &[u8]) -> String {
     line.iter().map(letter).collect()
 }
 
-/// A name as it may go to a terminal: its controls escaped.
+/// A name as it may go to a terminal: what would not be seen as itself is escaped, and so is the
+/// escape.
 pub fn printable(name: &OsStr) -> String {
     let mut printable = String::new();
     for letter in name.to_string_lossy().chars() {
-        if letter.is_control() {
+        if letter == '\\' || misleads(letter) {
             printable.extend(letter.escape_default());
         } else {
             printable.push(letter);
         }
     }
     printable
+}
+
+/// Controls, letters of no width, those that end a line or turn the direction of the text around
+/// them, and what is no character.
+pub fn misleads(letter: char) -> bool {
+    let unseen = matches!(letter, '\u{200b}'..='\u{200f}' | '\u{2060}'..='\u{206f}' | '\u{feff}');
+    let turns = matches!(letter, '\u{2028}'..='\u{202e}');
+    let none = u32::from(letter) & 0xfffe == 0xfffe || matches!(letter, '\u{fdd0}'..='\u{fdef}');
+    letter.is_control() || unseen || turns || none
+}
+
+/// The text in lines that fit, broken at blanks; a word that does not fit has a line of its own.
+pub fn wrapped(text: &str, fits: impl Fn(&str) -> bool) -> Vec<String> {
+    let mut lines: Vec<String> = Vec::new();
+    for word in text.split_whitespace() {
+        let longer = lines.last().map(|line| format!("{line} {word}"));
+        match (lines.last_mut(), longer) {
+            (Some(line), Some(longer)) if fits(&longer) => *line = longer,
+            _ => lines.push(word.to_string()),
+        }
+    }
+    lines
 }
 
 #[cfg(test)]
@@ -101,6 +124,21 @@ mod tests {
         assert_eq!(tasks(&[3, 2, 1]), "tasks 3, 2 and 1");
         let many: Vec<u16> = (1..=13).collect();
         assert_eq!(tasks(&many), "tasks 1, 2, 3, 4, 5, 6, 7, 8, 9, 10, .. and 13 (13 in all)");
+    }
+
+    #[test]
+    fn a_name_is_seen_as_it_is() {
+        assert_eq!(printable("a b-é.std".as_ref()), "a b-é.std");
+        assert_eq!(printable("\n".as_ref()), "\\n");
+        assert_eq!(printable("\\n".as_ref()), "\\\\n");
+        assert_eq!(printable("\u{202e}\u{200b}\u{2028}".as_ref()), "\\u{202e}\\u{200b}\\u{2028}");
+    }
+
+    #[test]
+    fn lines_are_broken_at_blanks() {
+        let fits = |line: &str| line.len() <= 5;
+        assert_eq!(wrapped("a bc def ghijklm n", fits), ["a bc", "def", "ghijklm", "n"]);
+        assert!(wrapped("", fits).is_empty());
     }
 
     #[test]

@@ -4,7 +4,6 @@ use crate::phrases::grouped;
 use crate::standard::{self, fault};
 use racejudge::{Refusal, Trace, TEXT_BYTES};
 use std::ffi::OsStr;
-use std::fs::File;
 use std::io::{self, Read};
 
 /// The name that stands for standard input.
@@ -33,7 +32,7 @@ impl Recording {
         let bytes = if file == STANDARD_INPUT {
             standard::input().and_then(|input| start(&*input))
         } else {
-            File::open(file).and_then(start)
+            standard::open(file).and_then(start)
         };
         Recording::of(bytes.map_err(|error| format!("cannot be read: {}", fault(&error)))?)
     }

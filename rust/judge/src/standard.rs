@@ -1,10 +1,12 @@
 //! Standard input and output by their descriptors. Rust's own take one that cannot be read or written
 //! for an empty one, and tell no error.
 
-use std::fs::File;
+use std::ffi::OsStr;
+use std::fs::{self, File, Metadata};
 use std::io::{self, Error, Write};
 use std::mem::ManuallyDrop;
 use std::os::fd::FromRawFd;
+use std::os::unix::fs::MetadataExt;
 use std::sync::atomic::{AtomicBool, Ordering::Relaxed};
 
 const INPUT: i32 = 0;
@@ -34,17 +36,57 @@ extern "C" {
 /// Asks for a descriptor's flags, and fails where it is closed.
 const F_GETFD: i32 = 1;
 
+/// What stands at a descriptor, which is /dev/null where that was closed.
+fn standing(descriptor: i32) -> ManuallyDrop<File> {
+    // Safe: Rust has both open before `main`, and this file is never closed.
+    ManuallyDrop::new(unsafe { File::from_raw_fd(descriptor) })
+}
+
+fn was_closed(descriptor: i32) -> bool {
+    CLOSED[descriptor as usize].load(Relaxed)
+}
+
 fn standard(descriptor: i32) -> io::Result<ManuallyDrop<File>> {
-    if CLOSED[descriptor as usize].load(Relaxed) {
+    if was_closed(descriptor) {
         return Err(Error::other("it is closed"));
     }
-    // Safe: Rust has both open before `main`, and this file is never closed.
-    Ok(ManuallyDrop::new(unsafe { File::from_raw_fd(descriptor) }))
+    Ok(standing(descriptor))
 }
 
 /// Standard input.
 pub fn input() -> io::Result<ManuallyDrop<File>> {
     standard(INPUT)
+}
+
+/// Opens a file. One that leads to a standard input that is closed, as /dev/stdin does, is closed
+/// too.
+pub fn open(path: &OsStr) -> io::Result<File> {
+    if was_closed(INPUT) && leads_to(path, INPUT).is_some() {
+        return Err(Error::other("standard input is closed"));
+    }
+    File::open(path)
+}
+
+/// Whether what is read from the path is gone from standard input: the path leads there, and it is
+/// no file that is read from its start again.
+pub fn shares_input(path: &OsStr) -> bool {
+    leads_to(path, INPUT).is_some_and(|data| !data.is_file())
+}
+
+/// Whether the path leads to where standard output goes.
+pub fn is_output(path: &OsStr) -> bool {
+    leads_to(path, OUTPUT).is_some()
+}
+
+/// What a path leads to, if that stands at the descriptor.
+fn leads_to(path: &OsStr, descriptor: i32) -> Option<Metadata> {
+    let (there, here) = (fs::metadata(path).ok()?, standing(descriptor).metadata().ok()?);
+    is_same(&there, &here).then_some(there)
+}
+
+/// Whether two files are one.
+pub fn is_same(one: &Metadata, other: &Metadata) -> bool {
+    (one.dev(), one.ino()) == (other.dev(), other.ino())
 }
 
 /// Writes to standard output at once.

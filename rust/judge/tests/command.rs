@@ -108,14 +108,18 @@ fn a_wrong_command_line_is_told() {
     wrong_usage(&["--"], "no file is given");
     wrong_usage(&["--fast", text], "there is no option --fast");
     wrong_usage(&["-j", text], "there is no option -j");
-    wrong_usage(&["-", "-"], "- is given twice, but standard input can be read once");
-    wrong_usage(&["-", "--", "-"], "- is given twice, but standard input can be read once");
+    let twice = "standard input is given twice, and can be read once";
+    wrong_usage(&["-", "-"], twice);
+    wrong_usage(&["-", "--", "-"], twice);
+    wrong_usage(&["-", "/dev/stdin"], twice);
     wrong_usage(&[text, "--svg"], "--svg needs a value behind it");
     wrong_usage(&["--svg", &picture, "--svg", &picture, text], "--svg is given twice");
     wrong_usage(&["--svg", &picture, text, text], "--svg draws one file, and more are given");
     let no_input = "--svg draws from a file into a file, and takes no -";
     wrong_usage(&["--svg", &picture, "-"], no_input);
     wrong_usage(&["--svg", "-", text], no_input);
+    let no_file = "--svg needs a file behind it; one of this name is given as ./--json";
+    wrong_usage(&["--svg", "--json", text], no_file);
     wrong_usage(&["--svg", text, text], "--svg would write over the file that is to be judged");
     assert_eq!(fs::read_to_string(text).unwrap(), DOCUMENT);
     assert!(!fs::exists(&picture).unwrap());
@@ -355,6 +359,21 @@ fn a_picture_is_drawn_where_there_is_a_trace() {
     assert!(said.out.ends_with("\nThere is no picture: the file makes no trace.\n"));
     assert!(draw(&text, &["--json"]).out.contains("\"picture\":null"));
     assert_eq!((draw(&missing, &[]).status, fs::exists(&picture).unwrap()), (3, false));
+}
+
+#[test]
+fn a_picture_is_written_over_nothing_but_a_picture() {
+    let ([clean, race, ..], _folder) = files();
+    let (clean, race) = (clean.to_str().unwrap(), race.to_str().unwrap());
+    let held = fs::read(race).unwrap();
+    let told = format!("--svg would write over {race}, which is there and is no picture");
+    wrong_usage(&["--svg", race, clean], &told);
+    assert_eq!(fs::read(race).unwrap(), held);
+    for older in ["", "<?xml version=\"1.0\"?><svg/>", "<svg/>"] {
+        let picture = file(older);
+        assert_eq!(run(["--svg", picture.to_str().unwrap(), clean]).status, 0, "{older:?}");
+        assert!(fs::read_to_string(&*picture).unwrap().contains("clean 1"), "{older:?}");
+    }
 }
 
 #[test]

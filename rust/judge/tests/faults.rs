@@ -24,6 +24,10 @@ fn a_closed_standard_input_is_no_empty_one() {
     let closed = redirected("<&-", &["-"]);
     let told = "judge: standard input cannot be read: it is closed\n";
     assert_eq!((closed.status, closed.out.as_str(), closed.err.as_str()), (3, "", told));
+    // Nor is it under another name.
+    let closed = redirected("<&-", &["/dev/stdin"]);
+    let told = "judge: /dev/stdin cannot be read: standard input is closed\n";
+    assert_eq!((closed.status, closed.out.as_str(), closed.err.as_str()), (3, "", told));
     // A file is judged all the same.
     let text = file(DOCUMENT);
     assert_eq!(redirected("<&-", &[text.to_str().unwrap()]), run([&text]));
@@ -68,6 +72,18 @@ fn lost_output_is_told() {
     assert_eq!(redirected("1<>/dev/null", &[text]).status, 1);
     assert_eq!(redirected("2>&-", &[text]).status, 1);
     assert_eq!(redirected(">/dev/full 2>&-", &[text]).status, 3);
+}
+
+#[test]
+fn no_picture_is_written_over_the_answer() {
+    let (text, folder) = (file(DOCUMENT), folder());
+    let out = folder.join("out");
+    let (text, path) = (text.to_str().unwrap(), out.to_str().unwrap());
+    for picture in [path, "/dev/stdout"] {
+        let said = redirected(&format!(">{path}"), &["--svg", picture, text]);
+        assert_eq!((said.status, fs::read(&out).unwrap().len()), (3, 0), "{picture}");
+        assert!(said.err.starts_with("judge: --svg would write over what is printed\n"));
+    }
 }
 
 #[test]

@@ -27,7 +27,8 @@ pub enum Kind {
 }
 
 impl Kind {
-    const ALL: [Kind; 5] = [Kind::Read, Kind::Write, Kind::Fork, Kind::Join, Kind::Halt];
+    /// All kinds, in the order of their numbers.
+    pub const ALL: [Kind; 5] = [Kind::Read, Kind::Write, Kind::Fork, Kind::Join, Kind::Halt];
 
     /// The number that stands for the kind in a trace: 0 for a read to 4 for a halt.
     pub const fn number(self) -> u8 {

@@ -1,4 +1,6 @@
-//! Text for a picture: escaped for XML, measured and wrapped.
+//! Text for a picture: escaped for XML, measured and shortened.
+
+use crate::phrases::{misleads, wrapped};
 
 /// What may stand in the text or in an attribute of XML 1.0.
 pub fn escape(text: &str) -> String {
@@ -11,20 +13,11 @@ pub fn escape(text: &str) -> String {
             '"' => out.push_str("&quot;"),
             '\'' => out.push_str("&#39;"),
             '\t' | '\n' | '\r' => out.push(' '),
-            _ if is_unfit(c) => out.push(char::REPLACEMENT_CHARACTER),
+            _ if misleads(c) => out.push(char::REPLACEMENT_CHARACTER),
             _ => out.push(c),
         }
     }
     out
-}
-
-/// Control characters and noncharacters, which XML does not allow or advises against, and those
-/// that turn the direction of the text around them.
-fn is_unfit(c: char) -> bool {
-    let turns =
-        matches!(c, '\u{200e}' | '\u{200f}' | '\u{202a}'..='\u{202e}' | '\u{2066}'..='\u{2069}');
-    let no_character = u32::from(c) & 0xfffe == 0xfffe || matches!(c, '\u{fdd0}'..='\u{fdef}');
-    c.is_control() || turns || no_character
 }
 
 /// The width of a text in pixels, at most: fonts differ, and this goes by a wide one.
@@ -55,17 +48,9 @@ fn advance(c: char) -> i32 {
     }
 }
 
-/// Lines no wider than `limit`, broken at blanks; a word that is wider has a line of its own.
+/// Lines no wider than `limit`.
 pub fn wrap(text: &str, size: i32, limit: i32) -> Vec<String> {
-    let mut lines: Vec<String> = Vec::new();
-    for word in text.split_whitespace() {
-        let longer = lines.last().map(|line| format!("{line} {word}"));
-        match (lines.last_mut(), longer) {
-            (Some(line), Some(longer)) if width(&longer, size) <= limit => *line = longer,
-            _ => lines.push(word.to_string()),
-        }
-    }
-    lines
+    wrapped(text, |line| width(line, size) <= limit)
 }
 
 /// The text, or as much of its beginning and end as fits in bold, with a mark between.

@@ -2,14 +2,15 @@
 
 use super::{name, unread, Failure, Status, Word, HELP, JSON, VERSION};
 use crate::arguments::{Arguments, Options};
+use crate::phrases::printable;
 use crate::recording::{Recording, STANDARD_INPUT};
-use crate::standard::{complain, fault, print};
+use crate::standard::{complain, fault, is_output, is_same, print, shares_input};
 use crate::study::Study;
 use crate::{explain, objects, svg};
 use racejudge::Verdict;
 use std::ffi::{OsStr, OsString};
 use std::fs;
-use std::os::unix::fs::MetadataExt;
+use std::io::Read;
 
 const SVG: &str = "--svg";
 const ORDERS: &str = "--orders";
@@ -22,7 +23,8 @@ pub const WORD: Word = Word {
 Each FILE is a trace, as text or in the binary form. - is standard input.
 
   --json       prints one JSON object a line for each file, in place of words
-  --svg FILE   draws the trace of the one file that is given as a picture into FILE
+  --svg FILE   draws the trace of the one file that is given as a picture into FILE, and writes over
+               nothing there but an older picture
   --orders     prints both orders of a race whole, however long they are
   --           ends the options: what follows is a file, whatever its name
 
@@ -31,10 +33,10 @@ A file that has the name of a word is given as ./WORD.
 The first line of an answer is the proved judge's own:
 
   clean N                 N events, and no race
-  race S T                events S and T race
-  refused ROW POSITION    the file breaks a rule, and is not judged
+  race S T                events S and T race; it is the first race, and what follows is not judged
+  refused ROW POSITION    the file breaks a rule there, with no race before
 
-What follows it explains it, and need not be believed. Events count from 0, lines of a file from 1.
+What follows it explains it, and is not proved. Events count from 0, lines of a file from 1.
 
 Status: 0 all clean, 1 a race, 2 a refusal, 3 something could not be judged, or the command line is
 wrong, or the output could not be written. Of several files the highest counts.
@@ -84,24 +86,50 @@ fn run(arguments: Arguments) -> Result<Status, Failure> {
 
 /// Says what is wrong with these files, or with the picture's beside them.
 fn check(files: &[OsString], picture: Option<&OsStr>) -> Result<(), String> {
-    let inputs = files.iter().filter(|&file| file == STANDARD_INPUT).count();
+    let is_input = |file: &&OsString| *file == STANDARD_INPUT || shares_input(file);
+    if files.is_empty() {
+        return Err("no file is given".to_string());
+    }
+    if files.iter().filter(is_input).count() > 1 {
+        return Err("standard input is given twice, and can be read once".to_string());
+    }
     match picture {
-        _ if files.is_empty() => Err("no file is given".to_string()),
-        _ if inputs > 1 => Err("- is given twice, but standard input can be read once".to_string()),
         Some(_) if files.len() > 1 => Err(format!("{SVG} draws one file, and more are given")),
-        Some(picture) if inputs > 0 || picture == STANDARD_INPUT => {
-            Err(format!("{SVG} draws from a file into a file, and takes no -"))
-        }
-        Some(picture) if is_same(picture, &files[0]) => {
-            Err(format!("{SVG} would write over the file that is to be judged"))
-        }
-        _ => Ok(()),
+        Some(picture) => check_picture(&files[0], picture),
+        None => Ok(()),
     }
 }
 
-fn is_same(one: &OsStr, other: &OsStr) -> bool {
-    let identity = |file| fs::metadata(file).ok().map(|data| (data.dev(), data.ino()));
-    identity(one).is_some_and(|it| Some(it) == identity(other))
+/// A picture goes to a file of its own, and is written over nothing but an older one.
+fn check_picture(file: &OsStr, picture: &OsStr) -> Result<(), String> {
+    let name = printable(picture);
+    if file == STANDARD_INPUT || picture == STANDARD_INPUT {
+        return Err(format!("{SVG} draws from a file into a file, and takes no -"));
+    }
+    if picture.as_encoded_bytes().starts_with(b"-") {
+        return Err(format!("{SVG} needs a file behind it; one of this name is given as ./{name}"));
+    }
+    let both = fs::metadata(file).ok().zip(fs::metadata(picture).ok());
+    if both.is_some_and(|(file, picture)| is_same(&file, &picture)) {
+        return Err(format!("{SVG} would write over the file that is to be judged"));
+    }
+    if is_output(picture) {
+        return Err(format!("{SVG} would write over what is printed"));
+    }
+    if holds_else(picture) {
+        return Err(format!("{SVG} would write over {name}, which is there and is no picture"));
+    }
+    Ok(())
+}
+
+/// Whether a file has something in it that is no picture, or that cannot be seen.
+fn holds_else(path: &OsStr) -> bool {
+    if !fs::metadata(path).is_ok_and(|data| data.is_file()) {
+        return false;
+    }
+    let mut start = Vec::new();
+    let read = fs::File::open(path).and_then(|file| file.take(5).read_to_end(&mut start));
+    read.is_err() || !(start.is_empty() || start == b"<?xml" || start.starts_with(b"<svg"))
 }
 
 impl Job {
