@@ -1,6 +1,7 @@
 //! What the proved library said, in words for people.
 
 mod collision;
+mod form;
 mod misfit;
 mod order;
 mod page;
@@ -11,7 +12,7 @@ mod ways;
 
 pub use refusal::{Reason, Refused};
 
-use crate::phrases::count;
+use crate::phrases::{clean_before, count};
 use crate::recording::Recording;
 use crate::study::{Question, Scene, Study};
 use page::Page;
@@ -26,16 +27,16 @@ pub fn judged(study: &Study, whole: bool) -> String {
     match (&study.answer, &study.scene) {
         (Ok(Verdict::Clean), Some(scene)) => clean(&mut page, scene),
         (Ok(Verdict::Race { s, t, first, second }), Some(scene)) => {
-            let why = study.why.as_ref();
-            Race { s: *s, t: *t, orders: [first, second], why, whole }.tell(&mut page, scene);
+            let (orders, why) = ([&first[..], &second[..]], study.why.as_ref());
+            let race = Race { s: *s, t: *t, orders, why, broken: study.broken, whole };
+            race.tell(&mut page, scene);
             counting(&mut page, scene.recording);
         }
         (Err(refusal), scene) => {
             let refused = Refused::of(study.recording, scene.as_ref(), refusal);
             refused.tell(&mut page, refusal);
             if let Refused::Event(_, p) = refused {
-                let before = format!("No two accesses before event {p} race.");
-                page.say(&format!("{before} Nothing is said of what follows."));
+                page.say(&format!("{} Nothing is said of what follows.", clean_before(p)));
                 counting(&mut page, study.recording);
             }
         }
@@ -46,7 +47,7 @@ pub fn judged(study: &Study, whole: bool) -> String {
 
 fn clean(page: &mut Page, scene: &Scene) {
     if scene.trace.is_empty() {
-        page.say("There is no event in the file: none was judged.");
+        page.say("There is no event in the file, so nothing can race.");
         return;
     }
     page.say(

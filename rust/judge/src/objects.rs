@@ -88,6 +88,16 @@ fn race(answer: &Answer, study: &Study) -> Fields {
         ("why", study.why.as_ref().map(why).into()),
         ("first", first.clone().into()),
         ("second", second.clone().into()),
+        ("broken", study.broken.as_ref().map(|refusal| Json::Object(rule(refusal))).into()),
+    ]
+}
+
+/// The rule of a refusal, and where it is broken.
+fn rule(refusal: &Refusal) -> Fields {
+    vec![
+        ("row", refusal.row.into()),
+        ("position", refusal.position.into()),
+        ("meaning", refusal.meaning().into()),
     ]
 }
 
@@ -135,16 +145,15 @@ fn refused(recording: &Recording, scene: Option<&Scene>, refusal: &Refusal) -> F
         Refused::LineTooMany(text) => (Json::Null, text_line(text, None)),
         Refused::Whole(_) => (Json::Null, Json::Null),
     };
-    vec![
-        ("row", refusal.row.into()),
-        ("position", refusal.position.into()),
-        ("meaning", refusal.meaning().into()),
+    let mut fields = rule(refusal);
+    fields.extend([
         ("event", event),
         ("text_line", text_line),
         ("state", state.into()),
         ("cause", unless_empty(hint.cause)),
         ("advice", unless_empty(hint.advice)),
-    ]
+    ]);
+    fields
 }
 
 fn lossy(bytes: &[u8]) -> String {

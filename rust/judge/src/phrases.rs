@@ -55,6 +55,11 @@ pub fn grouped(number: usize) -> String {
     }
 }
 
+/// What is known of the events before one that is refused.
+pub fn clean_before(p: usize) -> String {
+    format!("No two accesses before event {p} race.")
+}
+
 /// A sentence's first letter made large.
 pub fn capital(sentence: &str) -> String {
     let mut letters = sentence.chars();

@@ -5,7 +5,7 @@ use crate::graph::Graph;
 use crate::phrases::place;
 use crate::recording::Recording;
 use crate::why::Why;
-use racejudge::{reaches, Place, Refusal, Trace, Verdict};
+use racejudge::{reaches, Kind, Place, Refusal, Trace, Verdict};
 
 /// A trace, its graph as far as it keeps the rules, and where it was recorded.
 pub struct Scene<'a> {
@@ -21,8 +21,8 @@ impl<'a> Scene<'a> {
         Some(Scene { recording, trace, graph: Graph::new(trace, trace.len()) })
     }
 
-    pub fn is_move(&self, p: usize) -> bool {
-        self.trace.event(p).and_then(|event| event.kind()).is_some_and(|kind| !kind.is_access())
+    pub fn kind(&self, p: usize) -> Option<Kind> {
+        self.trace.event(p)?.kind()
     }
 
     pub fn task(&self, p: usize) -> u16 {
@@ -47,17 +47,22 @@ pub struct Study<'a> {
     pub answer: Answer,
     /// None where there is no race.
     pub why: Option<Why>,
+    /// The rule that the trace breaks behind a race. The judge stops at the race; the ordering call
+    /// holds the rules to the whole trace, whatever is asked.
+    pub broken: Option<Refusal>,
 }
 
 impl<'a> Study<'a> {
     pub fn new(recording: &'a Recording) -> Self {
         let answer = answer::judged(recording);
         let scene = Scene::new(recording);
-        let why = match (&answer, &scene) {
-            (Ok(Verdict::Race { s, t, .. }), Some(scene)) => Why::new(&scene.graph, *s, *t),
-            _ => None,
+        let (why, broken) = match (&answer, &scene) {
+            (Ok(Verdict::Race { s, t, .. }), Some(scene)) => {
+                (Why::new(&scene.graph, *s, *t), reaches(scene.trace, 0, 0).err())
+            }
+            _ => (None, None),
         };
-        Study { recording, answer, scene, why }
+        Study { recording, answer, scene, why, broken }
     }
 
     /// The proved answer's own line.

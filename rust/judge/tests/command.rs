@@ -83,7 +83,7 @@ fn standard_input_is_read_by_its_name() {
 fn nothing_on_standard_input_is_no_event() {
     let said = run(["-"]);
     assert_eq!((said.status, first_line(&said)), (0, "clean 0"));
-    assert!(said.out.contains("There is no event in the file: none was judged."));
+    assert!(said.out.contains("There is no event in the file, so nothing can race."));
 }
 
 #[track_caller]
@@ -244,7 +244,7 @@ fn long_ways_are_cut_in_the_middle() {
     let rows: Vec<&str> = way.lines().take_while(|line| !line.is_empty()).map(str::trim).collect();
     assert_eq!(rows.len(), 13, "{}", said.out);
     assert_eq!(rows[0], "event 3    line 3    task 0 forks task 2");
-    assert_eq!(rows[6], "(28 rows left out)");
+    assert_eq!(rows[6], "(28 rows left out; --json has all)");
     assert_eq!(rows[12], "event 42   line 42   task 40 reads location 5");
 }
 

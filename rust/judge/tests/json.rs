@@ -53,7 +53,8 @@ fn a_race_has_all_its_fields() {
     let [race] = &objects(&said.out)[..] else { panic!("{said:?}") };
     assert_eq!((said.status, said.err.as_str()), (1, ""));
     let names = [
-        "answer", "events", "file", "first", "location", "s", "said", "second", "t", "tasks", "why",
+        "answer", "broken", "events", "file", "first", "location", "s", "said", "second", "t",
+        "tasks", "why",
     ];
     assert_eq!(race.names(), names);
     assert_eq!(race.field("file").text(), path.to_str().unwrap());
@@ -69,6 +70,17 @@ fn a_race_has_all_its_fields() {
     assert_eq!(race.field("why"), &Json::parse(why).unwrap());
     assert_eq!(race.field("first").numbers(), [0, 1, 3, 2]);
     assert_eq!(race.field("second").numbers(), [0, 3, 1, 2]);
+    assert_eq!(race.field("broken"), &Json::Null);
+}
+
+#[test]
+fn a_rule_that_is_broken_behind_a_race_is_told() {
+    let path = file(format!("{DOCUMENT}T7|w(V1)|40\n"));
+    let said = run(["--json".as_ref(), path.as_os_str()]);
+    let race = &objects(&said.out)[0];
+    assert_eq!(race.field("said").text(), "race 1 3");
+    let broken = r#"{"row":7,"position":4,"meaning":"the actor is not the running task"}"#;
+    assert_eq!(race.field("broken"), &Json::parse(broken).unwrap());
 }
 
 #[test]

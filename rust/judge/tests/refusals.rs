@@ -136,13 +136,31 @@ fn row_14_is_a_line_with_carriage_return_or_no_end() {
     bad_line(b"T1|w(V5)|20\r\n", "T1|w(V5)|20\\r", 11, found, "the line ends of Windows");
     let found = "a carriage return stands here";
     bad_line(b"T1|w(V5)|20\rT0|r(V5)|3\r", "T1|w(V5)|20\\rT0|r(V5)|3\\r", 11, found, "mac2unix");
-    let found = "the file ends here, with no line feed";
-    bad_line(b"T1|w(V5)|20", "T1|w(V5)|20", 11, found, "add a line feed");
-    let found = "the file ends here, in the middle of a line";
-    bad_line(b"T1|w(", "T1|w(", 5, found, "the file was cut off");
-    bad_line(b"T1|w(V5)|\n", "T1|w(V5)|", 9, "the line ends here, too early", "left out the rest");
+    let found = "the line ends here, with no source line";
+    bad_line(b"T1|w(V5)|\n", "T1|w(V5)|", 9, found, "left out the source line");
+    bad_line(b"T1|w(V5)\n", "T1|w(V5)", 8, found, "left out the source line");
+    bad_line(b"T1|w(V\n", "T1|w(V", 6, "the line ends here, too early", "left out the rest");
     bad_line(b"\n", "", 0, "the line is empty", "There may be no empty line");
     bad_line(b"\nT1|w(V5)|20\n", "", 0, "the line is empty", "There may be no empty line");
+}
+
+/// Whatever it stops in: the cause is the same.
+#[test]
+fn row_14_is_a_file_that_breaks_off() {
+    let found = "the file breaks off here, in the middle of a line";
+    for line in ["T", "T1", "T1|", "T1|fo", "T1|r", "T1|w(", "T1|w(V", "T1|w(V5)", "T1|w(V5)|"] {
+        let cause = "Likely cause: the file breaks off: the recording was stopped";
+        bad_line(line.as_bytes(), line, line.len(), found, cause);
+        let before = "Without this line, what stands before it can be judged.";
+        bad_line(line.as_bytes(), line, line.len(), found, before);
+        // It may be all that there is.
+        refused(line, "refused 14 0", &[found, cause]);
+        assert!(!run([&file(line)]).out.contains(before));
+    }
+    let found = "the file ends here, with no line feed";
+    bad_line(b"T1|w(V5)|20", "T1|w(V5)|20", 11, found, "add a line feed");
+    // What does not fit does not break off.
+    bad_line(b"T1|fx", "T1|fx", 4, "the operation should be r, w, fork or join", "another form");
 }
 
 #[test]
@@ -151,14 +169,34 @@ fn row_14_is_a_byte_order_mark() {
     let shown = "\n  \\xef\\xbb\\xbfT0|fork(T1)|10\n  ^ the file begins with a byte-order mark\n";
     assert!(said.out.starts_with("refused 14 0\n") && said.out.contains(shown), "{}", said.out);
     assert!(said.out.contains("Save the file as plain text without it."));
+    let later = "\u{feff}T1|w(V5)|20\n".as_bytes();
+    let shown = "\\xef\\xbb\\xbfT1|w(V5)|20";
+    bad_line(later, shown, 0, "a byte-order mark stands here", "were put together");
 }
 
 #[test]
-fn row_14_is_a_wrong_letter_number_or_operation() {
+fn row_14_is_a_file_that_is_no_text() {
+    let (found, cause) = ("the file is no text", "it is a binary trace whose first four bytes are");
+    let mut trace = binary([Event::fork(0, 1), Event::write(1, 5)]);
+    trace[..4].copy_from_slice(b"\x02\xff\xff\xff");
+    for content in [&trace[..], b"\x7fELF\x02\x01\x01\0", b"\x89PNG\r\n\x1a\n", b"T0|r(V\xff\n"] {
+        refused(content, "refused 14 0", &[found, cause, "or a file of another kind"]);
+    }
+    for text in ["# Pr\u{fc}fstand 7\n", "run\t7\r\n"] {
+        let words = run([&file(text)]).out;
+        assert!(words.contains("is a heading, a comment") && !words.contains(found), "{words}");
+    }
+    // On a later line only that is damaged.
+    let shown = "T1|w(V\\xff";
+    bad_line(b"T1|w(V\xff\n", shown, 6, "the byte 0xff stands here", "the line is damaged");
+}
+
+#[test]
+fn row_14_is_a_blank_or_a_wrong_letter() {
     let blanks = "There may be no blanks and no tabs";
     bad_line(b"T1|w(V5)|20 \n", "T1|w(V5)|20", 11, "a blank stands here", blanks);
     bad_line(b" T1|w(V5)|20\n", " T1|w(V5)|20", 0, "a blank stands here", blanks);
-    bad_line(b"T1|\tw(V5)|20\n", "T1|\\tw(V5)|20", 2, "r, w, fork or join should stand here", "");
+    bad_line(b"T1|\tw(V5)|20\n", "T1|\\tw(V5)|20", 3, "a tab stands here", blanks);
     bad_line(b"T1\t|w(V5)|20\n", "T1\\t|w(V5)|20", 2, "a tab stands here", blanks);
     let letters = "Tasks are written with a large T, locations with a large V.";
     bad_line(b"t1|w(V5)|20\n", "t1|w(V5)|20", 0, "a small t stands here", letters);
@@ -166,30 +204,67 @@ fn row_14_is_a_wrong_letter_number_or_operation() {
     bad_line(b"T1|w(5)|20\n", "T1|w(5)|20", 5, "the V before the number is missing", letters);
     bad_line(b"T1|fork(2)|0\n", "T1|fork(2)|0", 8, "the T before the number is missing", letters);
     bad_line(b"T1|w(v5)|20\n", "T1|w(v5)|20", 5, "a large V should stand here", letters);
-    let numbers = "Numbers go from 0 to 65,535, without leading zeros.";
-    let found = "a number with a leading zero stands here";
-    bad_line(b"T01|w(V5)|20\n", "T01|w(V5)|20", 1, found, numbers);
-    let found = "a number above 65,535 stands here";
-    bad_line(b"T1|w(V65536)|0\n", "T1|w(V65536)|0", 6, found, numbers);
-    let locks = "Locks are not part of the form.";
-    bad_line(b"T1|acq(L5)|20\n", "T1|acq(L5)|20", 2, "the operation acq stands here", locks);
-    bad_line(b"T1|rel(L5)|20\n", "T1|rel(L5)|20", 2, "the operation rel stands here", locks);
-    let full = "the trace is of the full STD format";
-    bad_line(b"T1|begin()|20\n", "T1|begin()|20", 2, "the operation begin stands here", full);
-    bad_line(b"T1|end()|20\n", "T1|end()|20", 2, "the operation end stands here", full);
-    let small = "Operations are written in small letters";
-    bad_line(b"T1|W(V5)|20\n", "T1|W(V5)|20", 2, "the operation W stands here", small);
+    bad_line(b"T1|fork(V2)|0\n", "T1|fork(V2)|0", 8, "a large T should stand here", letters);
     let forms = "`Ta|r(Vb)|c`, `Ta|w(Vb)|c`, `Ta|fork(Tb)|c` or `Ta|join(Tb)|c`";
     bad_line(b"# run 7\n", "# run 7", 0, "a line begins with T and a number", forms);
+    bad_line(b"Trace 7\n", "Trace 7", 1, "a number should stand here", "is a heading");
+    let found = "a | should stand here, before the source line";
+    bad_line(b"T1|w(V5)1\n", "T1|w(V5)1", 8, found, "the recorder writes another form");
+}
+
+#[test]
+fn row_14_is_a_wrong_number() {
+    let numbers = "Numbers are decimal, from 0 to 65,535, without leading zeros.";
+    let found = "a digit stands here, behind a leading zero";
+    bad_line(b"T01|w(V5)|20\n", "T01|w(V5)|20", 2, found, numbers);
+    let found = "a digit stands here that makes the number too large";
+    bad_line(b"T1|w(V65536)|0\n", "T1|w(V65536)|0", 10, found, numbers);
+    let found = "a letter stands here, in a number";
+    bad_line(b"T1|w(V0x1F)|1\n", "T1|w(V0x1F)|1", 7, found, numbers);
+    bad_line(b"T1|w(V5)|1F\n", "T1|w(V5)|1F", 10, found, numbers);
+    bad_line(b"T1|w(Vx)|1\n", "T1|w(Vx)|1", 6, "a number should stand here", numbers);
+}
+
+#[test]
+fn row_14_is_a_wrong_operation() {
+    let found = "the operation should be r, w, fork or join";
+    bad_line(b"T1|x(V5)|1\n", "T1|x(V5)|1", 3, found, "the recorder writes another form");
+    bad_line(b"T1|rr(V5)|1\n", "T1|rr(V5)|1", 4, found, "the recorder writes another form");
+    let [acq, rel, begin, end] = ["acq", "rel", "begin", "end"]
+        .map(|it| format!("the operation {it} is not part of the form"));
+    let locks = "Locks are not part of the form.";
+    bad_line(b"T1|acq(L5)|20\n", "T1|acq(L5)|20", 3, &acq, locks);
+    bad_line(b"T1|rel(L5)|20\n", "T1|rel(L5)|20", 4, &rel, locks);
+    let full = "the trace is of the full STD format";
+    bad_line(b"T1|begin()|20\n", "T1|begin()|20", 3, &begin, full);
+    bad_line(b"T1|end()|20\n", "T1|end()|20", 3, &end, full);
+    let small = "Operations are written in small letters";
+    bad_line(b"T1|W(V5)|20\n", "T1|W(V5)|20", 3, "the operation W has a large letter", small);
+}
+
+/// No line is named as left out that is there.
+#[test]
+fn a_source_line_that_is_there_is_not_missed() {
+    for line in ["T0|r(V0x1F)|1\n", "T0|r(V1)1\n", "T0|r(V1|1\n", "T0|r(V1)|x\n"] {
+        let words = run([&file(line)]).out;
+        assert!(words.starts_with("refused 14 0\n") && !words.contains("left out"), "{words}");
+    }
 }
 
 #[test]
 fn a_line_is_shown_safely_and_not_whole() {
     let esc = b"T1|\x1b[31mw(V5)|20\x07\n";
-    bad_line(esc, "T1|\\x1b[31mw(V5)|20\\x07", 2, "r, w, fork or join should stand here", "");
-    let long = [b"x".repeat(5_000), b"\n".to_vec()].concat();
-    let shown = format!("{} .. (4940 bytes more)", "x".repeat(60));
-    bad_line(&long, &shown, 0, "a line begins with T and a number", "");
+    bad_line(esc, "T1|\\x1b[31mw(V5)|20\\x07", 3, "the byte 0x1b stands here", "");
+    let begins = "a line begins with T and a number";
+    for (bytes, read) in [(57, "57"), (5_000, "5,000"), (1 << 20, "53,260")] {
+        let long = [b"x".repeat(bytes), b"\n".to_vec()].concat();
+        let shown = format!("{} .. ({read} bytes of the line were read)", "x".repeat(56));
+        bad_line(&long, &shown, 0, begins, "");
+    }
+    bad_line(&b"x".repeat(56), &"x".repeat(56), 0, begins, "");
+    // What is escaped takes more letters.
+    let shown = format!("{} .. (50 bytes of the line were read)", "\\xff".repeat(14));
+    bad_line(&b"\xff".repeat(50), &shown, 0, "the byte 0xff stands here", "");
 }
 
 #[test]

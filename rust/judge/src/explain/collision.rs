@@ -114,8 +114,7 @@ const NO_JOIN: &str = "a join is missing, or joins stand in the wrong order";
 const JOINED_TWICE: &str = "the join was recorded twice, or its number is wrong";
 
 fn unknown_kind(kind: u8) -> Vec<String> {
-    let kinds = [Kind::Read, Kind::Write, Kind::Fork, Kind::Join, Kind::Halt];
-    let names = kinds.map(|kind| format!("{} {kind}", kind.number())).join(", ");
+    let names = Kind::ALL.map(|kind| format!("{} {kind}", kind.number())).join(", ");
     vec![format!("Its kind is {kind}. The kinds are {names}.")]
 }
 

@@ -1,9 +1,8 @@
-//! Where a line stops being of the text form, and what that probably comes from.
+//! A line that is not of the text form: what stands where it stops being so, and what that probably
+//! comes from.
 
+use super::form::{fitting, is_operation, Wanted};
 use super::refusal::Hint;
-
-/// The operations of the form, each with the letter of what it names.
-const OPERATIONS: [(&str, &str); 4] = [("r", "V"), ("w", "V"), ("fork", "T"), ("join", "T")];
 
 /// Operations of the STD format that the form does not have.
 const LOCK_OPERATIONS: [&str; 3] = ["acq", "rel", "req"];
@@ -11,75 +10,38 @@ const OTHER_OPERATIONS: [&str; 6] = ["begin", "end", "branch", "enter", "exit", 
 
 const BYTE_ORDER_MARK: &[u8] = b"\xef\xbb\xbf";
 
-/// What should stand where a line stops being of the form.
+/// A line of a text, without its line feed.
 #[derive(Clone, Copy)]
-enum Wanted {
-    Task,
-    Number,
-    Operation,
-    /// The letter before the number that the operation names.
-    Letter(&'static str),
-    Source,
-    End,
-    LineFeed,
+pub struct Line<'a> {
+    pub bytes: &'a [u8],
+    /// It has a line feed; else the text ends with it.
+    pub is_ended: bool,
+    /// It is the first of the text.
+    pub is_first: bool,
 }
 
 /// A line that is not of the form.
 pub struct Misfit {
-    /// The byte from which on it is not.
+    /// The first byte that does not fit: what stands before it is the beginning of some line of the
+    /// form, and with it no more.
     pub at: usize,
-    /// What stands there, or does not.
+    /// What stands there, or does not: a clause that begins with a word of its own, so that it may
+    /// have a large letter.
     pub found: String,
     pub hint: Hint,
 }
 
 impl Misfit {
-    /// Of a line without its line feed; `ended` says whether it has one.
-    pub fn of(line: &[u8], ended: bool) -> Misfit {
-        let mut cursor = Cursor { line, at: 0 };
-        let wanted = cursor.line().err().unwrap_or(Wanted::LineFeed);
-        let at = cursor.at;
-        let (found, hint) = whole_line(line, ended, wanted)
-            .or_else(|| next_byte(&line[at..], ended))
-            .unwrap_or_else(|| instead_of(wanted, &line[at..]));
+    pub fn of(line: Line) -> Misfit {
+        let (at, wanted) = fitting(line.bytes);
+        let (found, hint) = broken_off(line, at, wanted)
+            .or_else(|| no_text(line, at))
+            .or_else(|| too_short(line.bytes, at, wanted))
+            .or_else(|| unseen(&line.bytes[at..], wanted))
+            .or_else(|| hexadecimal(line.bytes, at, wanted))
+            .unwrap_or_else(|| instead_of(line.bytes, at, wanted));
         Misfit { at, found, hint }
     }
-}
-
-struct Cursor<'a> {
-    line: &'a [u8],
-    at: usize,
-}
-
-impl Cursor<'_> {
-    /// Goes over as much of the line as is of the form; says what is wanted where that ends.
-    fn line(&mut self) -> Result<(), Wanted> {
-        self.word("T").ok_or(Wanted::Task)?;
-        self.number()?;
-        let operation = |(name, _): &&(&str, &str)| self.word(&format!("|{name}(")).is_some();
-        let (_, letter) = OPERATIONS.iter().find(operation).ok_or(Wanted::Operation)?;
-        self.word(letter).ok_or(Wanted::Letter(letter))?;
-        self.number()?;
-        self.word(")|").ok_or(Wanted::Source)?;
-        self.number()?;
-        self.line[self.at..].is_empty().then_some(()).ok_or(Wanted::End)
-    }
-
-    fn word(&mut self, word: &str) -> Option<()> {
-        self.line[self.at..].starts_with(word.as_bytes()).then(|| self.at += word.len())
-    }
-
-    /// Decimal, 0 to 65,535, no leading zero.
-    fn number(&mut self) -> Result<(), Wanted> {
-        let digits = start(&self.line[self.at..], u8::is_ascii_digit);
-        let fits = digits.parse().is_ok_and(|number: u16| number.to_string() == digits);
-        fits.then(|| self.at += digits.len()).ok_or(Wanted::Number)
-    }
-}
-
-/// What the bytes begin with: digits, or letters.
-fn start(bytes: &[u8], belongs: impl Fn(&u8) -> bool) -> String {
-    bytes.iter().take_while(|&byte| belongs(byte)).map(|&byte| char::from(byte)).collect()
 }
 
 /// What is found, and what that usually comes from.
@@ -89,15 +51,23 @@ const fn hint(cause: &'static str, advice: &'static str) -> Hint {
     Hint { cause, advice }
 }
 
-const MARK: Hint = hint("an editor put it there", "Save the file as plain text without it.");
-const EMPTY: Hint =
-    hint("", "There may be no empty line, not even at the end of the file. Remove it.");
 const NO_END: Hint = hint(
     "the file was cut off, or its last line was written without its end",
     "If the line is whole, add a line feed behind it.",
 );
-const CUT_OFF: Hint = hint("the file was cut off while it was written or copied", "");
+const CUT_OFF: Hint = hint(
+    "the file breaks off: the recording was stopped, the disk was full, or a copy was cut",
+    "Without this line, what stands before it can be judged.",
+);
+const MARK: Hint = hint("an editor put it there", "Save the file as plain text without it.");
+const MARK_WITHIN: Hint =
+    hint("files with such marks at their beginnings were put together", "Take it out.");
+const NO_TEXT: Hint =
+    hint("it is a binary trace whose first four bytes are damaged, or a file of another kind", "");
+const EMPTY: Hint =
+    hint("", "There may be no empty line, not even at the end of the file. Remove it.");
 const TOO_SHORT: Hint = hint("the recorder left out the rest of the line", "");
+const NO_SOURCE: Hint = hint("the recorder left out the source line", "");
 const WINDOWS: Hint = hint(
     "the file has the line ends of Windows",
     "Take the carriage returns out, with dos2unix or with tr -d '\\r'.",
@@ -110,7 +80,7 @@ const NO_BLANKS: Hint = hint("", "There may be no blanks and no tabs in a line, 
 const LETTERS: Hint = hint("", "Tasks are written with a large T, locations with a large V.");
 const NUMBERS: Hint = hint(
     "the recorder numbers what it sees in another way",
-    "Numbers go from 0 to 65,535, without leading zeros.",
+    "Numbers are decimal, from 0 to 65,535, without leading zeros.",
 );
 const LOCKS: Hint = hint(
     "the trace is of the full STD format",
@@ -119,54 +89,107 @@ const LOCKS: Hint = hint(
 );
 const FULL_FORMAT: Hint =
     hint("the trace is of the full STD format", "Leave the lines of this operation out.");
-const SMALL_LETTERS: Hint = hint("", "Operations are written in small letters, and ( follows.");
-const NO_SOURCE: Hint = hint("the recorder left out the source line", "");
+const SMALL_LETTERS: Hint = hint("", "Operations are written in small letters.");
 const TOO_LONG: Hint =
     hint("something was added to the line, or a line feed is missing between two lines", "");
 const NO_TRACE: Hint =
     hint("the line is damaged, or is a heading, a comment or another format", "");
+const OTHER_FORM: Hint = hint("the line is damaged, or the recorder writes another form", "");
 
-/// What is wrong with the line as a whole.
-fn whole_line(line: &[u8], ended: bool, wanted: Wanted) -> Option<Told> {
-    if line.starts_with(BYTE_ORDER_MARK) {
-        return Some(("the file begins with a byte-order mark".into(), MARK));
-    }
-    match wanted {
-        _ if line.is_empty() => Some(("the line is empty".into(), EMPTY)),
-        Wanted::LineFeed if !ended => {
-            Some(("the file ends here, with no line feed".into(), NO_END))
+/// The text ends with the line, which is of the form as far as it goes. That is asked first: what
+/// would follow is not known.
+fn broken_off(line: Line, at: usize, wanted: Wanted) -> Option<Told> {
+    let is_broken = !line.is_ended && at == line.bytes.len();
+    is_broken.then(|| match wanted {
+        Wanted::End => ("the file ends here, with no line feed".into(), NO_END),
+        _ => {
+            let advice = if line.is_first { "" } else { CUT_OFF.advice };
+            let hint = Hint { advice, ..CUT_OFF };
+            ("the file breaks off here, in the middle of a line".into(), hint)
         }
-        _ => None,
+    })
+}
+
+/// What is no letter of a text.
+fn no_text(line: Line, at: usize) -> Option<Told> {
+    let is_marked = line.bytes[at..].starts_with(BYTE_ORDER_MARK);
+    if is_marked && line.is_first && at == 0 {
+        Some(("the file begins with a byte-order mark".into(), MARK))
+    } else if is_marked {
+        Some(("a byte-order mark stands here".into(), MARK_WITHIN))
+    } else if line.is_first && !is_text(line.bytes) {
+        Some(("the file is no text: this line has bytes that no text has".into(), NO_TEXT))
+    } else {
+        None
     }
 }
 
-/// What is wrong wherever it stands.
-fn next_byte(rest: &[u8], ended: bool) -> Option<Told> {
+/// Letters and signs of any language are text too, as in a heading.
+fn is_text(line: &[u8]) -> bool {
+    let is_letter = |letter: char| !letter.is_control() || matches!(letter, '\t' | '\r');
+    std::str::from_utf8(line).is_ok_and(|text| text.chars().all(is_letter))
+}
+
+fn too_short(line: &[u8], at: usize, wanted: Wanted) -> Option<Told> {
+    let is_short = at == line.len();
+    is_short.then(|| match (line.last(), wanted) {
+        (None, _) => ("the line is empty".into(), EMPTY),
+        (_, Wanted::Source) | (Some(b'|'), Wanted::Number) => {
+            ("the line ends here, with no source line".into(), NO_SOURCE)
+        }
+        _ => ("the line ends here, too early".into(), TOO_SHORT),
+    })
+}
+
+/// What a reader of the line may not see.
+fn unseen(rest: &[u8], wanted: Wanted) -> Option<Told> {
     Some(match rest {
-        [] if !ended => ("the file ends here, in the middle of a line".into(), CUT_OFF),
-        [] => ("the line ends here, too early".into(), TOO_SHORT),
         b"\r" => ("a carriage return stands at the end of the line".into(), WINDOWS),
         [b'\r', ..] => ("a carriage return stands here".into(), NO_LINE_FEEDS),
         [b' ', ..] => ("a blank stands here".into(), NO_BLANKS),
         [b'\t', ..] => ("a tab stands here".into(), NO_BLANKS),
         [byte, ..] if !byte.is_ascii_graphic() => {
-            (format!("the byte {byte:#04x} stands here"), NO_TRACE)
+            let hint = if matches!(wanted, Wanted::Task) { NO_TRACE } else { OTHER_FORM };
+            (format!("the byte {byte:#04x} stands here"), hint)
         }
         _ => return None,
     })
 }
 
+/// A number goes on with letters, as 0x1F and 1F do.
+fn hexadecimal(line: &[u8], at: usize, wanted: Wanted) -> Option<Told> {
+    if !matches!(wanted, Wanted::Operation | Wanted::Closed | Wanted::End) {
+        return None;
+    }
+    let begins = line[..at].iter().rposition(|byte| !byte.is_ascii_digit())? + 1;
+    let number = start(&line[begins..], u8::is_ascii_alphanumeric).to_ascii_lowercase();
+    let digits = number.strip_prefix("0x").unwrap_or(&number);
+    let ends = begins + number.len();
+    let is_number = ends > at && digits.bytes().all(|byte| byte.is_ascii_hexdigit());
+    let is_closed = matches!(line.get(ends), None | Some(b'|' | b')'));
+    (is_number && is_closed).then(|| ("a letter stands here, in a number".into(), NUMBERS))
+}
+
 /// What stands in the place of what is wanted.
-fn instead_of(wanted: Wanted, rest: &[u8]) -> Told {
+fn instead_of(line: &[u8], at: usize, wanted: Wanted) -> Told {
+    let rest = &line[at..];
     match wanted {
         Wanted::Task => task(rest),
-        Wanted::Number => number(rest),
-        Wanted::Operation => operation(rest),
-        Wanted::Letter(wanted) => (letter(wanted, rest), LETTERS),
-        Wanted::Source => (")| and the source line should stand here".into(), NO_SOURCE),
-        Wanted::End | Wanted::LineFeed => {
-            ("the line should end here, behind the source line".into(), TOO_LONG)
+        // `Trace of run 7` begins like a line.
+        Wanted::Number if at == 1 => ("a number should stand here".into(), NO_TRACE),
+        Wanted::Number => ("a number should stand here".into(), NUMBERS),
+        Wanted::Smaller(start) if line[start] == b'0' => {
+            ("a digit stands here, behind a leading zero".into(), NUMBERS)
         }
+        Wanted::Smaller(_) => {
+            ("a digit stands here that makes the number too large".into(), NUMBERS)
+        }
+        Wanted::Operation => ("a | should stand here, behind the task".into(), OTHER_FORM),
+        Wanted::Name(start) => operation(&line[start..]),
+        Wanted::Letter(wanted) => (letter(wanted, rest), LETTERS),
+        Wanted::Closed => ("a ) should stand here, behind the number".into(), OTHER_FORM),
+        Wanted::Source => ("a | should stand here, before the source line".into(), OTHER_FORM),
+        Wanted::End => ("the line should end here, behind the source line".into(), TOO_LONG),
     }
 }
 
@@ -178,29 +201,21 @@ fn task(rest: &[u8]) -> Told {
     }
 }
 
-fn number(rest: &[u8]) -> Told {
-    match start(rest, u8::is_ascii_digit).as_bytes() {
-        [] => ("a number should stand here".into(), NO_TRACE),
-        [b'0', ..] => ("a number with a leading zero stands here".into(), NUMBERS),
-        _ => ("a number above 65,535 stands here".into(), NUMBERS),
-    }
-}
-
-fn operation(rest: &[u8]) -> Told {
-    let Some(behind) = rest.strip_prefix(b"|") else {
-        return ("| should stand here".into(), NO_TRACE);
-    };
-    let name = start(behind, u8::is_ascii_alphabetic);
+/// What is wrong with the operation that these bytes begin with.
+fn operation(bytes: &[u8]) -> Told {
+    let name = start(bytes, u8::is_ascii_alphabetic);
     let small = name.to_ascii_lowercase();
-    let found = format!("the operation {name} stands here");
-    if LOCK_OPERATIONS.contains(&small.as_str()) {
-        (found, LOCKS)
-    } else if OTHER_OPERATIONS.contains(&small.as_str()) {
-        (found, FULL_FORMAT)
-    } else if OPERATIONS.iter().any(|(name, _)| *name == small) {
-        (found, SMALL_LETTERS)
+    let is_among = |names: &[&str]| names.contains(&small.as_str());
+    if is_among(&LOCK_OPERATIONS) {
+        (format!("the operation {name} is not part of the form"), LOCKS)
+    } else if is_among(&OTHER_OPERATIONS) {
+        (format!("the operation {name} is not part of the form"), FULL_FORMAT)
+    } else if !is_operation(&small) {
+        ("the operation should be r, w, fork or join".into(), OTHER_FORM)
+    } else if name != small {
+        (format!("the operation {name} has a large letter"), SMALL_LETTERS)
     } else {
-        ("r, w, fork or join should stand here".into(), NO_TRACE)
+        ("a ( should stand here, behind the operation".into(), OTHER_FORM)
     }
 }
 
@@ -211,14 +226,23 @@ fn letter(wanted: &str, rest: &[u8]) -> String {
     }
 }
 
+/// What the bytes begin with: digits, or letters.
+fn start(bytes: &[u8], belongs: impl Fn(&u8) -> bool) -> String {
+    bytes.iter().take_while(|&byte| belongs(byte)).map(|&byte| char::from(byte)).collect()
+}
+
 #[cfg(test)]
 mod tests {
     use super::*;
 
+    fn second(bytes: &[u8], is_ended: bool) -> Misfit {
+        Misfit::of(Line { bytes, is_ended, is_first: false })
+    }
+
     /// Where the line stops being of the form, and what is found there.
     #[track_caller]
-    fn check(line: &str, ended: bool, at: usize, found: &str) {
-        let misfit = Misfit::of(line.as_bytes(), ended);
+    fn check(line: &str, is_ended: bool, at: usize, found: &str) {
+        let misfit = second(line.as_bytes(), is_ended);
         assert_eq!((misfit.at, misfit.found.as_str()), (at, found), "{line:?}");
     }
 
@@ -229,34 +253,46 @@ mod tests {
         check("t0|r(V5)|1", true, 0, "a small t stands here");
         check("0|r(V5)|1", true, 0, "the T before the task's number is missing");
         check("T|r(V5)|1", true, 1, "a number should stand here");
-        check("T0r(V5)|1", true, 2, "| should stand here");
-        check("T0|x(V5)|1", true, 2, "r, w, fork or join should stand here");
+        check("T0r(V5)|1", true, 2, "a | should stand here, behind the task");
+        check("T0|x(V5)|1", true, 3, "the operation should be r, w, fork or join");
+        check("T0|rr(V5)|1", true, 4, "the operation should be r, w, fork or join");
+        check("T0|for(T1)|1", true, 6, "the operation should be r, w, fork or join");
+        check("T0|fork[T1]|1", true, 7, "a ( should stand here, behind the operation");
         check("T0|r(5)|1", true, 5, "the V before the number is missing");
         check("T0|fork(1)|1", true, 8, "the T before the number is missing");
         check("T0|w(v5)|1", true, 5, "a large V should stand here");
-        check("T0|join(V5)|1", true, 8, "a large T should stand here");
-        check("T0|r(V5|1", true, 7, ")| and the source line should stand here");
+        check("T0|fork(V1)|1", true, 8, "a large T should stand here");
+        check("T0|r(V5|1", true, 7, "a ) should stand here, behind the number");
+        check("T0|r(V5)1", true, 8, "a | should stand here, before the source line");
+        check("T0|r(V5)|x", true, 9, "a number should stand here");
         check("T0|r(V5)|1|", true, 10, "the line should end here, behind the source line");
-        check("T0|r(V5)|", true, 9, "the line ends here, too early");
-        check("T0|r(V", false, 6, "the file ends here, in the middle of a line");
-        check("T0|r(V5)|1", false, 10, "the file ends here, with no line feed");
+        check("T0|r(V", true, 6, "the line ends here, too early");
+        check("T0|", true, 3, "the line ends here, too early");
+        check("T0|r(V5)", true, 8, "the line ends here, with no source line");
+        check("T0|r(V5)|", true, 9, "the line ends here, with no source line");
     }
 
     #[test]
     fn numbers_keep_their_bounds() {
-        check("T00|r(V5)|1", true, 1, "a number with a leading zero stands here");
-        check("T0|r(V05)|1", true, 6, "a number with a leading zero stands here");
+        check("T00|r(V5)|1", true, 2, "a digit stands here, behind a leading zero");
+        check("T0|r(V05)|1", true, 7, "a digit stands here, behind a leading zero");
         check("T0|r(V5)|65535", false, 14, "the file ends here, with no line feed");
-        check("T0|r(V5)|65536", true, 9, "a number above 65,535 stands here");
-        check("T99999999999999999999|r(V5)|1", true, 1, "a number above 65,535 stands here");
+        check("T0|r(V5)|65536", true, 13, "a digit stands here that makes the number too large");
+        check("T999999|r(V5)|1", true, 5, "a digit stands here that makes the number too large");
+        check("T655350|r(V5)|1", true, 6, "a digit stands here that makes the number too large");
+        for (line, at) in [("T0|r(V0x1F)|1", 7), ("T1f|r(V1)|1", 2), ("T0|r(V1)|1F", 10)] {
+            check(line, true, at, "a letter stands here, in a number");
+        }
     }
 
     #[test]
     fn operations_of_the_std_format_are_known() {
-        check("T0|acq(L1)|1", true, 2, "the operation acq stands here");
-        check("T0|begin(1)|1", true, 2, "the operation begin stands here");
-        check("T0|Fork(T1)|1", true, 2, "the operation Fork stands here");
-        assert!(Misfit::of(b"T0|rel(L1)|1", true).hint.advice.starts_with("Locks"));
+        check("T0|acq(L1)|1", true, 3, "the operation acq is not part of the form");
+        check("T0|rel(L1)|1", true, 4, "the operation rel is not part of the form");
+        check("T0|begin(1)|1", true, 3, "the operation begin is not part of the form");
+        check("T0|Fork(T1)|1", true, 3, "the operation Fork has a large letter");
+        check("T0|fOrk(T1)|1", true, 4, "the operation fOrk has a large letter");
+        assert!(second(b"T0|rel(L1)|1", true).hint.advice.starts_with("Locks"));
     }
 
     #[test]
@@ -266,6 +302,17 @@ mod tests {
         check("T0 |r(V5)|1", true, 2, "a blank stands here");
         check("T0|r(V5)|1\t", true, 10, "a tab stands here");
         check("T0|r(V\u{1}5)|1", true, 6, "the byte 0x01 stands here");
-        check("\u{feff}T0|r(V5)|1", true, 0, "the file begins with a byte-order mark");
+        check("\u{feff}T0|r(V5)|1", true, 0, "a byte-order mark stands here");
+    }
+
+    /// Whatever it stops in, a text that breaks off says so.
+    #[test]
+    fn the_beginning_of_a_line_breaks_off() {
+        let line = "T10|fork(T12)|34";
+        for at in 1..line.len() - 1 {
+            check(&line[..at], false, at, "the file breaks off here, in the middle of a line");
+            assert!(second(&line.as_bytes()[..at], false).hint.cause.contains("breaks off"));
+        }
+        check(line, false, line.len(), "the file ends here, with no line feed");
     }
 }

@@ -13,7 +13,12 @@ pub fn ordered(page: &mut Page, scene: &Scene, question: &Question) {
     }
     page.say(&format!("Event {p} comes before event {q}, whatever order the cores take:"));
     page.rows(scene.full_rows(&[p, q], q));
-    page.say("One path that makes it so, by its forks, halts and joins:");
+    if scene.task(p) == scene.task(q) {
+        let task = scene.task(p);
+        page.say(&format!("Both are of task {task}, and a task acts in the order of its events."));
+        return;
+    }
+    page.say("One path makes it so. It goes over from task to task here:");
     page.rows(way(scene, &scene.graph.path(p, q), q));
 }
 

@@ -1,5 +1,7 @@
 //! A page of words for a terminal.
 
+use crate::phrases::wrapped;
+
 /// Lines are no longer than this, unless they hold one long word.
 const WIDTH: usize = 100;
 
@@ -17,7 +19,7 @@ impl Page {
 
     /// A sentence on a line of its own, in the paragraph before it.
     pub fn add(&mut self, text: &str) {
-        for line in wrapped(text) {
+        for line in wrapped(text, |line| line.len() <= WIDTH) {
             self.0 += &line;
             self.0.push('\n');
         }
@@ -56,21 +58,6 @@ impl Page {
     pub fn text(self) -> String {
         self.0
     }
-}
-
-/// The text in lines, broken at blanks.
-fn wrapped(text: &str) -> Vec<String> {
-    let mut lines: Vec<String> = Vec::new();
-    for word in text.split(' ') {
-        match lines.last_mut() {
-            Some(line) if line.len() + 1 + word.len() <= WIDTH => {
-                line.push(' ');
-                line.push_str(word);
-            }
-            _ => lines.push(word.to_string()),
-        }
-    }
-    lines
 }
 
 #[cfg(test)]

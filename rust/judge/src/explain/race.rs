@@ -2,10 +2,11 @@
 
 use super::page::Page;
 use super::ways::ways;
+use crate::answer;
 use crate::phrases::tasks;
 use crate::study::Scene;
 use crate::why::Why;
-use racejudge::Kind;
+use racejudge::{Kind, Refusal};
 use std::ops::Range;
 
 /// A race of s and t, with its two orders, shown whole or only around the pair.
@@ -14,6 +15,8 @@ pub struct Race<'a> {
     pub t: usize,
     pub orders: [&'a [u16]; 2],
     pub why: Option<&'a Why>,
+    /// The rule that the trace breaks behind the race.
+    pub broken: Option<Refusal>,
     pub whole: bool,
 }
 
@@ -32,13 +35,13 @@ impl Race<'_> {
             "Both orders can happen. They differ only in the two events in brackets{more}:"
         ));
         page.rows(orders.iter().map(Order::row));
+        self.outlook(page, scene);
     }
 
     fn head(&self, scene: &Scene) -> String {
         let Race { s, t, .. } = self;
         let location = scene.trace.event(*t).map_or(0, |event| event.operand);
-        let kind = |&p: &usize| scene.trace.event(p).and_then(|event| event.kind());
-        let what = match (kind(s), kind(t)) {
+        let what = match (scene.kind(*s), scene.kind(*t)) {
             (Some(Kind::Write), Some(Kind::Read)) => {
                 format!("Event {s} writes location {location}, event {t} reads it")
             }
@@ -61,6 +64,19 @@ impl Race<'_> {
         if let (Some(later), Some(last)) = (why.joined_later, why.unjoined.last()) {
             let (joiner, mention) = (scene.task(later), scene.mention(later));
             page.add(&format!("Task {joiner} joins task {last} too late: {mention}."));
+        }
+    }
+
+    /// What may come once the race is mended: nothing behind it was judged.
+    fn outlook(&self, page: &mut Page, scene: &Scene) {
+        page.say("This is the first race of the trace. Others may follow once it is mended.");
+        if let Some(refusal) = &self.broken {
+            let (line, meaning) = (answer::refused(refusal), refusal.meaning());
+            page.add(&format!("Later a rule is broken too: {line} ({meaning})."));
+            let event = scene.mention(refusal.position);
+            page.add(&format!(
+                "The trace is refused there, at {event}, once no race comes before."
+            ));
         }
     }
 

@@ -1,15 +1,15 @@
 //! A refusal in words: what is refused, what it collides with, and what that usually comes from.
 
 use super::collision::collision;
-use super::misfit::Misfit;
+use super::misfit::{Line, Misfit};
 use super::page::Page;
 use crate::phrases::{capital, count, grouped, visible};
 use crate::recording::Recording;
 use crate::study::Scene;
 use racejudge::{Refusal, MAX_EVENTS, MAX_TEXT_EVENTS};
 
-/// Of a longer line the beginning is shown.
-const SHOWN_LINE: usize = 60;
+/// Of a line that takes more letters the beginning is shown.
+const SHOWN_LINE: usize = 56;
 
 /// Why something is refused.
 pub struct Reason {
@@ -50,7 +50,10 @@ impl<'a> Refused<'a> {
     pub fn of(recording: &'a Recording, scene: Option<&'a Scene<'a>>, refusal: &Refusal) -> Self {
         match (refusal.row, scene, recording.line(refusal.position)) {
             (5..=12, Some(scene), _) => Refused::Event(scene, refusal.position),
-            (14, _, Some((text, ended))) => Refused::Line(text, Misfit::of(text, ended)),
+            (14, _, Some((bytes, is_ended))) => {
+                let is_first = refusal.position == 0;
+                Refused::Line(bytes, Misfit::of(Line { bytes, is_ended, is_first }))
+            }
             (15, _, Some((text, _))) => Refused::LineTooMany(text),
             _ => Refused::Whole(scene.map_or(0, |scene| scene.trace.len())),
         }
@@ -122,12 +125,14 @@ fn whole(row: usize, events: usize) -> Reason {
     Reason { state: vec![has + &last.unwrap_or_default() + "."], hint: Hint { cause: "", advice } }
 }
 
-/// The line as far as it is shown.
+/// The line as far as it is shown. Of a long text not all is read: what follows is not counted.
 fn shown(text: &[u8]) -> String {
-    let (start, more) = text.split_at(text.len().min(SHOWN_LINE));
-    match more.len() {
-        0 => visible(start),
-        more => format!("{} .. ({more} bytes more)", visible(start)),
+    let fits = |end: &usize| visible(&text[..*end]).len() <= SHOWN_LINE;
+    let end = (0..=text.len().min(SHOWN_LINE)).rev().find(fits).unwrap_or(0);
+    let start = visible(&text[..end]);
+    match text.len() {
+        read if read == end => start,
+        read => format!("{start} .. ({} of the line were read)", count(read, "byte")),
     }
 }
 

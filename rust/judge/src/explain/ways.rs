@@ -4,24 +4,32 @@ use super::page::Page;
 use crate::phrases::{count, tasks};
 use crate::study::Scene;
 use crate::why::Why;
+use racejudge::Kind;
 
 /// Longer ways are shown by so many rows at each end.
 const SHOWN_END: usize = 6;
 
-/// The rows of a path: its moves, which are all that leads from task to task, and its last event.
+/// The rows of a path, with those in the middle left out where they are many.
 pub fn way(scene: &Scene, path: &[usize], widest: usize) -> Vec<String> {
-    let Some((last, before)) = path.split_last() else {
-        return Vec::new();
-    };
-    let mut shown: Vec<usize> = before.iter().copied().filter(|&p| scene.is_move(p)).collect();
-    shown.push(*last);
-    let mut rows = scene.rows(&shown, widest);
+    let mut rows = scene.rows(&turns(scene, path), widest);
     if rows.len() > 2 * SHOWN_END + 1 {
         let left_out = rows.len() - 2 * SHOWN_END;
-        let note = format!("({} left out)", count(left_out, "row"));
+        let note = format!("({} left out; --json has all)", count(left_out, "row"));
         rows.splice(SHOWN_END..SHOWN_END + left_out, [note]);
     }
     rows
+}
+
+/// Where a path goes over to another task, and its last event: the forks whose children it follows,
+/// and the halts with the joins that take them up, but no fork or join that it passes by.
+fn turns(scene: &Scene, path: &[usize]) -> Vec<usize> {
+    let turns = |&at: &usize| {
+        let leaves = path.get(at + 1).is_none_or(|&next| scene.task(next) != scene.task(path[at]));
+        // From a halt the only arc is that to its join.
+        let joins = at > 0 && scene.kind(path[at - 1]) == Some(Kind::Halt);
+        leaves || joins
+    };
+    (0..path.len()).filter(turns).map(|at| path[at]).collect()
 }
 
 /// Why nothing leads from s to t: where the ways to them part, and which join is missing.

@@ -2,7 +2,7 @@
 
 use super::story::{Mark, Story};
 use crate::answer;
-use crate::phrases::{capital, deed, grouped};
+use crate::phrases::{capital, clean_before, deed, grouped};
 use racejudge::{Event, Kind, Refusal, Verdict};
 
 /// What connects the two accesses of a race.
@@ -82,7 +82,7 @@ impl Story<'_> {
         let mut told = vec![format!("{}.", capital(&refusal.to_string()))];
         if let Some(p) = self.refused {
             told.extend(self.instead(refusal.row, p));
-            told.push(format!("No two accesses before event {p} race."));
+            told.push(clean_before(p));
         }
         vec![told.join(" ")]
     }
