@@ -48,14 +48,15 @@ fn status(line: &str) -> i32 {
     match line.split(' ').next() {
         Some("clean") => 0,
         Some("race") => 1,
-        _ => panic!("no example is refused: {line}"),
+        Some("refused") => 2,
+        _ => panic!("no answer: {line}"),
     }
 }
 
 /// Each example told in one way, against the expected file of that end. There is none besides.
 fn each(end: &str, options: &[&str], check: impl Fn(&str, &Said)) {
     let texts = names(&examples(), ".std");
-    assert!(texts.len() >= 8, "{texts:?}");
+    assert!(texts.len() >= 9, "{texts:?}");
     for name in &texts {
         let said = say(name, options);
         hold(&expected(&format!("{name}{end}")), &said.out);

@@ -199,7 +199,7 @@ fn random_runs(tries: usize) -> Vec<Drawn> {
 #[test]
 fn short_runs_are_drawn_whole() {
     let examples = examples();
-    assert!(examples.len() >= 8);
+    assert!(examples.len() >= 9);
     for drawn in examples {
         let positions: Vec<usize> = drawn.events().iter().map(|(p, _)| *p).collect();
         assert!(positions.into_iter().eq(0..drawn.trace.len()));
