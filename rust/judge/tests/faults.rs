@@ -8,7 +8,9 @@ use racejudge_bench::rng::Rng;
 use std::fs::{self, File};
 use std::io::{Seek, Write};
 use std::iter::repeat_n;
+use std::os::fd::OwnedFd;
 use std::os::unix::fs::{symlink, PermissionsExt};
+use std::os::unix::net::UnixStream;
 use std::path::Path;
 use std::process::{Command, Stdio};
 
@@ -99,20 +101,34 @@ fn a_reader_that_is_gone_is_told() {
     assert_eq!((said.status, said.err.as_str()), (3, told));
 }
 
+/// The first part is read before the second is there.
 #[test]
 fn input_in_parts_is_put_together() {
     let packed = binary([Event::fork(0, 1), Event::write(1, 5), Event::halt(1), Event::read(0, 5)]);
     for bytes in [DOCUMENT.as_bytes(), &packed] {
-        let mut command = judge(["-"]);
-        command.stdin(Stdio::piped()).stdout(Stdio::piped()).stderr(Stdio::piped());
-        let mut child = command.spawn().unwrap();
-        let mut input = child.stdin.take().unwrap();
-        for byte in bytes {
-            input.write_all(&[*byte]).unwrap();
+        for cut in [1, 4, 15, bytes.len() - 1] {
+            let path = file(bytes);
+            let parts = format!("head -c {cut} \"$0\"; sleep 0.2; tail -c +{} \"$0\"", cut + 1);
+            let command = format!("({parts}) | \"$1\" -");
+            let mut shell = Command::new("sh");
+            shell.args(["-c", &command]).arg(&path).arg(env!("CARGO_BIN_EXE_judge"));
+            let said = finish(&mut shell);
+            assert_eq!((said.status, said.out.lines().next()), (1, Some("race 1 3")), "{cut}");
         }
-        drop(input);
-        let said = Said::from(child.wait_with_output().unwrap());
-        assert_eq!((said.status, said.out.lines().next()), (1, Some("race 1 3")));
+    }
+}
+
+/// What was read before is not judged as if it were all.
+#[test]
+fn input_that_fails_behind_its_beginning_is_told() {
+    for bytes in [&DOCUMENT.as_bytes()[..27], DOCUMENT.as_bytes()] {
+        // Without waiting: where no more is there, and the other end is open, a read fails.
+        let (mut here, there) = UnixStream::pair().unwrap();
+        there.set_nonblocking(true).unwrap();
+        here.write_all(bytes).unwrap();
+        let said = finish(judge(["-"]).stdin(Stdio::from(OwnedFd::from(there))));
+        let told = "judge: standard input cannot be read: Resource temporarily unavailable\n";
+        assert_eq!((said.status, said.out.as_str(), said.err.as_str()), (3, "", told));
     }
 }
 

@@ -1,26 +1,26 @@
 //! Whatever comes in, something is said of it, and nothing panics.
 
 use racejudge::{judge, raw, reaches, Event, Trace, Verdict, MAX_TEXT_EVENTS};
+use racejudge_bench::rng::Rng;
 
-/// Pseudo-random numbers (splitmix64).
-struct Noise(u64);
+struct Noise(Rng);
 
 impl Noise {
-    fn draw(&mut self) -> u64 {
-        self.0 = self.0.wrapping_add(0x9e37_79b9_7f4a_7c15);
-        let mut z = self.0;
-        z = (z ^ (z >> 30)).wrapping_mul(0xbf58_476d_1ce4_e5b9);
-        z = (z ^ (z >> 27)).wrapping_mul(0x94d0_49bb_1331_11eb);
-        z ^ (z >> 31)
+    fn new(seed: u64) -> Self {
+        Noise(Rng::new(seed))
     }
 
     fn below(&mut self, bound: usize) -> usize {
-        (self.draw() % bound as u64) as usize
+        self.0.below(bound)
+    }
+
+    fn byte(&mut self) -> u8 {
+        self.below(256) as u8
     }
 
     fn bytes(&mut self, most: usize) -> Vec<u8> {
         let n = self.below(most + 1);
-        (0..n).map(|_| self.draw() as u8).collect()
+        (0..n).map(|_| self.byte()).collect()
     }
 
     /// An event of small numbers, so that rules are kept now and then.
@@ -58,7 +58,7 @@ fn asked(trace: &Trace, noise: &mut Noise) {
 
 #[test]
 fn traces() {
-    let noise = &mut Noise(1);
+    let noise = &mut Noise::new(1);
     for _ in 0..3_000 {
         let n = noise.below(40);
         let trace: Trace = (0..n).map(|_| noise.event()).collect();
@@ -77,14 +77,14 @@ fn traces() {
 
 #[test]
 fn texts() {
-    let noise = &mut Noise(2);
+    let noise = &mut Noise::new(2);
     let mut accepted = 0;
     for _ in 0..3_000 {
         let lines = noise.below(8);
         let mut text: Vec<u8> = (0..lines).flat_map(|_| noise.line().into_bytes()).collect();
         if noise.below(2) == 0 && !text.is_empty() {
             let at = noise.below(text.len());
-            text[at] = noise.draw() as u8;
+            text[at] = noise.byte();
         }
         if let Ok(trace) = Trace::from_text(&text) {
             accepted += 1;
@@ -99,7 +99,7 @@ fn texts() {
 
 #[test]
 fn binaries() {
-    let noise = &mut Noise(3);
+    let noise = &mut Noise::new(3);
     for _ in 0..3_000 {
         let mut bytes = noise.bytes(100);
         // Half of them with a length that fits.
@@ -115,7 +115,7 @@ fn binaries() {
 
 #[test]
 fn lent_slices() {
-    let noise = &mut Noise(4);
+    let noise = &mut Noise::new(4);
     for _ in 0..300 {
         let text = noise.line();
         let mut length = || MAX_TEXT_EVENTS - 2 + noise.below(4);

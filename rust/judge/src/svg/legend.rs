@@ -24,9 +24,8 @@ enum Sign {
     Pale,
 }
 
-const ROWS_AND_LINES: &str =
-    "Rows follow this run; lines hold in all runs. Events that no path of \
-                              lines connects have no order.";
+const ROWS_AND_LINES: &str = "Rows follow this run; lines hold in all runs. \
+    Events that no path of lines connects have no order.";
 
 /// Returns how far down it reaches.
 pub fn legend(canvas: &mut Canvas, story: &Story, top: i32, right: i32) -> i32 {

@@ -9,7 +9,7 @@ use racejudge::{Event, Kind, Refusal, Verdict};
 pub const NO_ORDER: &str = "no order";
 
 const NO_RACE: &str = "No race: where two tasks touch one location and one of them writes, \
-                       forks and joins order the two.";
+    forks and joins order the two.";
 
 impl Story<'_> {
     /// What stands beside a marked event.
