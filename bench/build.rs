@@ -1,5 +1,5 @@
 //! Builds the peers in C that the programs link: the two judges, under the names `twoorders_*` and
-//! `unionfind_*`, and the floor. Without the feature `linked` nothing is built.
+//! `unionfind_*`, the pass for cards and the floor. Without the feature `linked` nothing is built.
 //!
 //! Each function's section is set to start at a multiple of 64 bytes, as `start` does for the judge
 //! that is measured: then what else a program holds does not move the hot loops, and times repeat
@@ -9,8 +9,8 @@ use std::env;
 use std::path::{Path, PathBuf};
 use std::process::Command;
 
-const PEERS: [&str; 3] = ["twoorders", "unionfind", "floor"];
-const SHARED: &str = "src/peer.h";
+const PEERS: [&str; 4] = ["twoorders", "unionfind", "pass", "floor"];
+const SHARED: [&str; 2] = ["src/peer.h", "src/hints.h"];
 const INCLUDE: &str = "../include";
 const HEADER: &str = "../include/racejudge.h";
 
@@ -19,7 +19,7 @@ fn main() {
     if env::var_os("CARGO_FEATURE_LINKED").is_none() {
         return;
     }
-    for file in [SHARED, HEADER] {
+    for file in SHARED.into_iter().chain([HEADER]) {
         println!("cargo:rerun-if-changed={file}");
     }
     println!("cargo:rerun-if-env-changed=CC");

@@ -1,16 +1,17 @@
 /* The fork-join race judge: a trace of one run of a fork-join program, judged for data races.
- * Three calls: racejudge_translate (text to a trace), racejudge_judge, racejudge_ordering.
+ * Four calls: racejudge_translate (text to a trace), racejudge_judge, racejudge_judge_cards (the same,
+ * with a card for each location), racejudge_ordering.
  *
  * Link libcapi.a, which `rt staticlib capi` writes, for x86-64 Linux. It needs only memset of the C
  * library. Every call takes any contents and any lengths: nothing is required of the numbers in the
  * slices. What the language of the caller must see to: each pointer leads to as many cells as its
  * length says (also where the length is 0 it is not null), `values` leads to two and is not null, a
- * pointer to uint16_t or uint64_t is aligned for it, and no buffer that is written overlaps another
- * slice of the same call.
+ * pointer to uint16_t, uint64_t or racejudge_card is aligned for it, and no buffer that is written
+ * overlaps another slice of the same call.
  *
  * No call keeps anything between calls: what it answers and leaves depends on what it is lent alone,
  * and threads may call at the same time, each with buffers of its own. racejudge_translate takes some
- * 25,000 bytes of the stack, the other two less than 1,000.
+ * 25,000 bytes of the stack, racejudge_judge and racejudge_ordering less than 1,000.
  *
  * A TRACE is three slices of one length. Entry p of each makes event p; positions count from 0.
  *   kinds     RACEJUDGE_READ .. RACEJUDGE_HALT
@@ -29,12 +30,13 @@
  * q. Two accesses RACE if they have one location, at least one is a write, and neither reaches the other.
  *
  * THE WORKSPACE has at least RACEJUDGE_WORKSPACE + n cells for n events, with any contents. After the
- * refusals 1 to 4 it is unchanged. After every other answer its first RACEJUDGE_WORKSPACE + n cells
- * are 0 and the rest is unchanged.
+ * refusals 1 to 4 and 16 it is unchanged. After every other answer its first RACEJUDGE_WORKSPACE + n
+ * cells are 0 and the rest is unchanged.
  *
  * A REFUSAL has the number of the first condition that holds, and a position: that of the event for
- * 5 to 12, that of the line for 14 and 15, else 0. The checks go 1 to 4; then for each event 5, 6, 7
- * and the one for its kind; 13 last. Rows 14 and 15 are the translation's, and are all that it has.
+ * 5 to 12, that of the line for 14 and 15, else 0. The checks go 1 to 4, then 16; then for each event
+ * 5, 6, 7 and the one for its kind; 13 last. Rows 14 and 15 are the translation's, and are all that it
+ * has.
  *    1  the three slices differ in length
  *    2  more than 32,768 events
  *    3  the workspace is too short
@@ -50,6 +52,7 @@
  *   13  p or q is not below the number of events (the ordering call only)
  *   14  a line, counted from 0, is not of the text form
  *   15  with that line, counted from 0, the text makes more than 2,048 events
+ *   16  there are fewer than 1,024 cards (the judge with cards only)
  *
  * A TEXT has one event a line, each line ended by a line feed:
  *   Ta|r(Vb)|c      task a reads location b
@@ -79,7 +82,17 @@ enum { RACEJUDGE_READ, RACEJUDGE_WRITE, RACEJUDGE_FORK, RACEJUDGE_JOIN, RACEJUDG
 /* The most events that a text makes: each slice that one is translated to has so many cells at least. */
 #define RACEJUDGE_TEXT_EVENTS 2048
 
-/* What racejudge_judge returns. */
+/* One card for each location, and the positions on that of a location which no event touches. */
+#define RACEJUDGE_CARDS 1024
+#define RACEJUDGE_NOWHERE 65535
+
+/* A location's card: how many reads and writes it has, and the positions of the first and the last of
+ * them, RACEJUDGE_NOWHERE for both where there is none. */
+typedef struct racejudge_card {
+    uint16_t reads, writes, first, last;
+} racejudge_card;
+
+/* What racejudge_judge and racejudge_judge_cards return. */
 enum { RACEJUDGE_CLEAN = 0, RACEJUDGE_RACE = 1 };
 
 /* What racejudge_ordering returns. */
@@ -88,7 +101,7 @@ enum { RACEJUDGE_NO = 0, RACEJUDGE_YES = 1 };
 /* What racejudge_translate returns. */
 enum { RACEJUDGE_TRANSLATED = 0, RACEJUDGE_SHORT = 3 };
 
-/* What all three return for a refusal. */
+/* What all four return for a refusal. */
 enum { RACEJUDGE_REFUSED = 2 };
 
 /* Judges the whole trace. Returns, and stores in values[0] and values[1]:
@@ -109,6 +122,16 @@ uint64_t racejudge_judge(const uint8_t *kinds, size_t kinds_len, const uint16_t 
                          uint16_t *workspace, size_t workspace_len, uint16_t *first,
                          size_t first_len, uint16_t *second, size_t second_len,
                          uint64_t values[2]);
+
+/* Judges the whole trace as racejudge_judge does, with the same answer, workspace and order buffers, and
+ * makes the cards. These are at least RACEJUDGE_CARDS records, with any contents; fewer are refused by
+ * 16, which leaves every buffer unchanged. After clean record l of the first RACEJUDGE_CARDS is the card
+ * of location l, and the records past them are unchanged. After a race or a refusal all are unchanged. */
+uint64_t racejudge_judge_cards(const uint8_t *kinds, size_t kinds_len, const uint16_t *tasks,
+                               size_t tasks_len, const uint16_t *operands, size_t operands_len,
+                               uint16_t *workspace, size_t workspace_len, uint16_t *first,
+                               size_t first_len, uint16_t *second, size_t second_len,
+                               racejudge_card *cards, size_t cards_len, uint64_t values[2]);
 
 /* Does event p reach event q: is p = q, or does a chain of arcs lead from p to q? The whole trace must
  * keep the rules 5 to 12; races do not matter. Returns, and stores in values[0] and values[1]:

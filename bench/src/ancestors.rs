@@ -1,6 +1,7 @@
 //! The all-ancestors judge, written from document 01: for every event the set of all events
 //! that reach it, as bits, made from the arcs of document 01's three sentences. Slow and plain.
 
+use crate::cards::cards;
 use crate::line::Line;
 use crate::trace::*;
 
@@ -12,6 +13,28 @@ pub struct Outcome<T> {
     pub cleared: usize,
     /// After a race the first t + 1 cells of the two order buffers.
     pub orders: Option<(Vec<u16>, Vec<u16>)>,
+    /// After a clean verdict with cards the first records of those.
+    pub cards: Option<Vec<Card>>,
+}
+
+impl<T> Outcome<T> {
+    /// A call that a size check refuses leaves all as it was.
+    fn untouched(said: T) -> Self {
+        Outcome { said, cleared: 0, orders: None, cards: None }
+    }
+}
+
+impl Outcome<Answer> {
+    /// What becomes of the judge's outcome where so many cards are lent too. Row 16 comes after the
+    /// rows 1 to 4 and before all others.
+    pub fn with_cards(self, trace: &Trace, lent: usize) -> Self {
+        match self.said {
+            Answer::Refused(1..=4, _) => self,
+            _ if lent < LOCATIONS => Outcome::untouched(Answer::Refused(16, 0)),
+            Answer::Clean => Outcome { cards: Some(cards(trace)), ..self },
+            _ => self,
+        }
+    }
 }
 
 /// The line so far, and for each task where an arc to come may start.
@@ -151,14 +174,14 @@ impl Ancestors {
             row = Some(4);
         }
         if let Some(row) = row {
-            return Outcome { said: Answer::Refused(row, 0), cleared: 0, orders: None };
+            return Outcome::untouched(Answer::Refused(row, 0));
         }
         let said = self.answer(trace);
         let orders = match said {
             Answer::Race(s, t) => Some((self.order(s, t, [s, t]), self.order(s, t, [t, s]))),
             _ => None,
         };
-        Outcome { said, cleared: WORKSPACE + trace.len(), orders }
+        Outcome { said, cleared: WORKSPACE + trace.len(), orders, cards: None }
     }
 
     /// The whole outcome of the ordering call on a workspace of this length.
@@ -170,10 +193,10 @@ impl Ancestors {
         q: usize,
     ) -> Outcome<Ordering> {
         if let Some(row) = size_row(trace, workspace) {
-            return Outcome { said: Ordering::Refused(row, 0), cleared: 0, orders: None };
+            return Outcome::untouched(Ordering::Refused(row, 0));
         }
         let said = self.ordering_answer(trace, p, q);
-        Outcome { said, cleared: WORKSPACE + trace.len(), orders: None }
+        Outcome { said, cleared: WORKSPACE + trace.len(), orders: None, cards: None }
     }
 }
 

@@ -2,9 +2,11 @@
 //! form in which an answer comes back: all others compare a `Told` with that of the answer that
 //! they want, or turn it into one.
 
-use crate::trace::{Answer, Ordering, Trace, Translation, WORKSPACE};
+use crate::trace::{Answer, Card, Ordering, Trace, Translation, LOCATIONS, WORKSPACE};
 pub use racejudge::raw::Told;
 use racejudge::raw::{self, JudgeCall, OrderingCall};
+/// A card, as it stands in a lent slice.
+pub use racejudge::Card as Record;
 
 /// The file name of the archive that is linked as the judge.
 pub const LINKED: &str = raw::ARCHIVE;
@@ -22,6 +24,7 @@ extern "C" {
         n: usize,
         workspace: *mut u16,
     ) -> u64;
+    fn pass_call(kinds: *const u8, operands: *const u16, n: usize, cards: *mut Record);
 }
 
 fn told(code: u64, a: usize, b: usize) -> Told {
@@ -55,6 +58,12 @@ impl From<Translation> for Told {
             Translation::Refused(number, line) => told(raw::REFUSED, number, line),
             Translation::Short => told(raw::SHORT, 0, 0),
         }
+    }
+}
+
+impl From<Card> for Record {
+    fn from(Card { reads, writes, first, last }: Card) -> Self {
+        Record { reads, writes, first, last }
     }
 }
 
@@ -114,6 +123,29 @@ impl Judge {
         let Trace { kinds, tasks, operands } = trace;
         unsafe { raw::ordering_by(self.ordering, kinds, tasks, operands, workspace, p, q) }
     }
+}
+
+/// The library with cards.
+pub fn judge_cards(
+    trace: &Trace,
+    workspace: &mut [u16],
+    first: &mut [u16],
+    second: &mut [u16],
+    cards: &mut [Record],
+) -> Told {
+    let Trace { kinds, tasks, operands } = trace;
+    raw::judge_cards(kinds, tasks, operands, workspace, first, second, cards)
+}
+
+/// The cards by hand.
+///
+/// # Safety
+///
+/// The trace keeps the rules, so that its operands are below 1,024.
+pub unsafe fn pass(trace: &Trace, cards: &mut [Record]) {
+    let Trace { kinds, operands, .. } = trace;
+    assert!(cards.len() >= LOCATIONS);
+    pass_call(kinds.as_ptr(), operands.as_ptr(), kinds.len(), cards.as_mut_ptr());
 }
 
 /// The least that any judge does: reads the trace once, clears its workspace once.

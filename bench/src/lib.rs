@@ -1,13 +1,14 @@
 //! Measures and tests the race judge from outside, over its static library.
 //!
-//! Reading order: `trace` (what goes in and comes out), `line` and `ancestors` (the slow judge,
-//! written from document 01 alone), `text` (the text form), `ffi` (the linked judges),
-//! `twoorders.c`, `unionfind.c` and `fasttrack` (the peers), `rng`, `builder`, `workloads` and
-//! `samples` (the traces), `extent` (how near a trace comes to the limits), `program` and `words`
-//! (input, output and command lines).
+//! Reading order: `trace` (what goes in and comes out), `line`, `ancestors` and `cards` (the slow
+//! judge, written from document 01 and the owner's sentence alone), `text` (the text form), `ffi`
+//! (the linked judges), `twoorders.c`, `unionfind.c`, `fasttrack` and `pass.c` (the peers), `rng`,
+//! `builder`, `workloads` and `samples` (the traces), `extent` (how near a trace comes to the
+//! limits), `program` and `words` (input, output and command lines).
 
 pub mod ancestors;
 pub mod builder;
+pub mod cards;
 pub mod extent;
 pub mod fasttrack;
 #[cfg(feature = "linked")]

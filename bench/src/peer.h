@@ -8,6 +8,7 @@
 #include <stdint.h>
 #include <string.h>
 
+#include "hints.h"
 #include "racejudge.h"
 
 #define GLUED(name, call) name##_##call
@@ -25,9 +26,6 @@ enum {
     HALT = RACEJUDGE_HALT
 };
 enum { TASKS = 1024, LOCATIONS = 1024, WORKSPACE = RACEJUDGE_WORKSPACE };
-
-#define LIKELY(c) __builtin_expect(!!(c), 1)
-#define UNLIKELY(c) __builtin_expect(!!(c), 0)
 
 typedef struct {
     const uint8_t *kinds;

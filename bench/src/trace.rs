@@ -15,6 +15,9 @@ pub const MAX_EVENTS: usize = 32_768;
 /// The workspace has at least this many cells more than the trace has events.
 pub const WORKSPACE: usize = 12_288;
 
+/// The first and last position on the card of a location that no event touches.
+pub const NOWHERE: u16 = 65_535;
+
 /// An event: task, kind and operand.
 pub type Event = (u16, u8, u16);
 
@@ -97,6 +100,19 @@ pub enum Answer {
     /// The number and the position.
     Refused(usize, usize),
 }
+
+/// What a clean trace does to a location.
+#[derive(Clone, Copy, Debug, PartialEq, Eq)]
+pub struct Card {
+    pub reads: u16,
+    pub writes: u16,
+    /// The first and last position that touches it, or `NOWHERE` for both.
+    pub first: u16,
+    pub last: u16,
+}
+
+/// The card of a location that no event touches.
+pub const UNTOUCHED: Card = Card { reads: 0, writes: 0, first: NOWHERE, last: NOWHERE };
 
 /// What the ordering call says.
 #[derive(Clone, Copy, Debug, PartialEq, Eq)]

@@ -42,10 +42,6 @@ enum { NOBODY = 0xffff };
  * that are written together. */
 enum { BLOCK = 128, ROW = 8, CHUNK = 16 };
 
-/* The compiler takes x for unknown from here on: it makes no branch of the choice that led to x or
- * follows from it. */
-#define HIDE(x) __asm__("" : "+r"(x))
-
 /* An event, and its segment. */
 typedef struct {
     size_t at, segment;

@@ -1,33 +1,16 @@
-// The C interface: the judge of a whole trace, the ordering call and the translation of a text, for C and Rust programs to link. Each slice is a pointer and a
-// length there. A call returns a code and stores two values; `specs/Codes.antt` says which, and `include/racejudge.h` has the prototypes.
-mod translation;
-
+// The C interface: the calls under their names in C, for C and Rust programs to link. Each slice is a pointer and a length there. A call returns a code and stores
+// two values (`told`); `include/racejudge.h` has the prototypes. The functions that take records are walked by hand: a straight line of calls, and one loop.
 ghost use mathlib.Core.Path.{_≡_};
+ghost use Prim.Native.Nat.{_≤_};
+ghost use lib.ListN.{length};
 ghost use Rattle.trace.specs.Outcome.{judgeOutcome, orderingOutcome};
 ghost use Rattle.trace.specs.Slices.{slices};
-ghost use Rattle.capi.specs.Codes.{judgeCall, judgeSeen, orderingCall, orderingSeen, translateCall, translateSeen, TranslateTells};
-use text::Translation;
-use text::limits::MAX_TEXT_EVENTS;
-use trace::Answer;
-use trace::Ordering;
-
-// What the judge returns.
-const CLEAN: u64 = 0;
-
-const RACE: u64 = 1;
-
-// What the ordering call returns.
-const NO: u64 = 0;
-
-const YES: u64 = 1;
-
-// What the translation returns where the text makes a trace, and where a slice has too few cells for every text.
-const TRANSLATED: u64 = 0;
-
-const SHORT: u64 = 3;
-
-// What all return where the trace, or the text, is turned back.
-const REFUSED: u64 = 2;
+ghost use Rattle.trace.specs.Demands.{JudgeDemand1, JudgeDemand2, JudgeDemand3};
+ghost use Rattle.told.specs.Codes.{heard, judgeCall, judgeSeen, orderingCall, orderingSeen, translateCall, translateSeen, TranslateTells};
+ghost use Rattle.cards.specs.Cards.{withCards, cardsOutcome, cardsCall, cardsSeen};
+ghost use Rattle.cards.specs.Demands.{CardsDemand1, CardsDemand2};
+ghost use Rattle.cards.specs.Tally.{cardIn, Tables};
+use cards::Card;
 
 // The judge of a whole trace.
 #[no_mangle]
@@ -40,25 +23,18 @@ pub extern "C" fn racejudge_judge(
     second: &mut [u16],
     values: &mut [u64; 2],
 ) -> u64
-    ensures { λ r. ⌜ judgeSeen r (now (values .exit)) (now (ws .exit)) (now (first .exit)) (now (second .exit))
+    ensures outcome { λ r. ⌜ judgeSeen r (now (values .exit)) (now (ws .exit)) (now (first .exit)) (now (second .exit))
         ≡ judgeCall (judgeOutcome (now (kinds .entry)) (now (tasks .entry)) (now (operands .entry))
         (now (ws .entry)) (now (first .entry)) (now (second .entry))) ⌝ }
+    ensures demand1 { λ r. ⌜ JudgeDemand1 (now (kinds .entry)) (now (tasks .entry)) (now (operands .entry))
+        (now (ws .entry)) (now (first .entry)) (now (second .entry)) (heard r (now (values .exit)))
+        (now (ws .exit)) (now (first .exit)) (now (second .exit)) ⌝ }
+    ensures demand2 { λ r. ⌜ JudgeDemand2 (now (kinds .entry)) (now (tasks .entry)) (now (operands .entry))
+        (now (ws .entry)) (now (first .entry)) (now (second .entry)) (heard r (now (values .exit))) ⌝ }
+    ensures demand3 { λ r. ⌜ JudgeDemand3 (now (kinds .entry)) (now (tasks .entry)) (now (operands .entry))
+        (heard r (now (values .exit))) (now (first .entry)) (now (second .entry)) (now (first .exit)) (now (second .exit)) ⌝ }
 {
-    let answer = judge::judge(kinds, tasks, operands, ws, first, second);
-    match answer {
-        Answer::Clean => {
-            *values = [0, 0];
-            CLEAN
-        }
-        Answer::Race(s, t) => {
-            *values = [s as u64, t as u64];
-            RACE
-        }
-        Answer::Refused(refusal) => {
-            *values = [refusal.number as u64, refusal.position as u64];
-            REFUSED
-        }
-    }
+    told::judge(kinds, tasks, operands, ws, first, second, values)
 }
 
 // The ordering call: does event p reach event q?
@@ -75,24 +51,10 @@ pub extern "C" fn racejudge_ordering(
     ensures { λ r. ⌜ orderingSeen r (now (values .exit)) (now (ws .exit))
         ≡ orderingCall (orderingOutcome (now (kinds .entry)) (now (tasks .entry)) (now (operands .entry)) (now (ws .entry)) p q) ⌝ }
 {
-    let answer = ordering::ordering(kinds, tasks, operands, ws, p, q);
-    match answer {
-        Ordering::No => {
-            *values = [0, 0];
-            NO
-        }
-        Ordering::Yes => {
-            *values = [0, 0];
-            YES
-        }
-        Ordering::Refused(refusal) => {
-            *values = [refusal.number as u64, refusal.position as u64];
-            REFUSED
-        }
-    }
+    told::ordering(kinds, tasks, operands, ws, p, q, values)
 }
 
-// Text to a trace. The text is translated to spare slices first, since `translate` takes them of one size, and the lent ones may have more cells.
+// Text to a trace.
 #[no_mangle]
 pub extern "C" fn racejudge_translate(
     text: &[u8],
@@ -106,36 +68,48 @@ pub extern "C" fn racejudge_translate(
     ensures form { λ r. ⌜ TranslateTells (now (text .entry)) (slices (now (kinds .entry)) (now (tasks .entry)) (now (operands .entry)))
         (translateSeen r (now (values .exit)) (slices (now (kinds .exit)) (now (tasks .exit)) (now (operands .exit)))) ⌝ }
 {
-    if translation::is_short(kinds.len(), tasks.len(), operands.len()) {
-        *values = [0, 0];
-        return SHORT;
+    told::translate(text, kinds, tasks, operands, values)
+}
+
+// Stores the first k cards.
+fn put_cards(cards: &mut [Card], ws: &[u16], k: usize)
+    requires { ⌜ (k ≤ length (now cards)) × Tables (now ws) k ⌝ }
+    ensures { λ _. ⌜ now (cards .exit) ≡ withCards (cardIn (now (ws .entry))) k (now (cards .entry)) ⌝ }
+{
+    let mut i = 0;
+    while i < k {
+        cards[i] = cards::card_of(ws, i);
+        i = i + 1;
     }
-    let mut spare_kinds = [0u8; MAX_TEXT_EVENTS];
-    let mut spare_tasks = [0u16; MAX_TEXT_EVENTS];
-    let mut spare_operands = [0u16; MAX_TEXT_EVENTS];
-    let translation = text::translate(
-        text,
-        &mut spare_kinds,
-        &mut spare_tasks,
-        &mut spare_operands,
-    );
-    match translation {
-        Translation::Events(count) => {
-            translation::copy_events(
-                &spare_kinds,
-                &spare_tasks,
-                &spare_operands,
-                kinds,
-                tasks,
-                operands,
-                count,
-            );
-            *values = [count as u64, 0];
-            TRANSLATED
-        }
-        Translation::Refused(refusal) => {
-            *values = [refusal.number as u64, refusal.position as u64];
-            REFUSED
-        }
-    }
+}
+
+// The judge that also fills a card for each location.
+#[no_mangle]
+pub extern "C" fn racejudge_judge_cards(
+    kinds: &[u8],
+    tasks: &[u16],
+    operands: &[u16],
+    ws: &mut [u16],
+    first: &mut [u16],
+    second: &mut [u16],
+    cards: &mut [Card],
+    values: &mut [u64; 2],
+) -> u64
+    ensures outcome { λ r. ⌜ cardsSeen r (now (values .exit)) (now (ws .exit)) (now (first .exit)) (now (second .exit)) (now (cards .exit))
+        ≡ cardsCall (cardsOutcome (now (kinds .entry)) (now (tasks .entry)) (now (operands .entry))
+        (now (ws .entry)) (now (first .entry)) (now (second .entry)) (now (cards .entry))) ⌝ }
+    ensures demand1 { λ r. ⌜ CardsDemand1 (now (kinds .entry)) (now (tasks .entry)) (now (operands .entry))
+        (now (ws .entry)) (now (first .entry)) (now (second .entry)) (now (cards .entry)) (heard r (now (values .exit)))
+        (now (ws .exit)) (now (first .exit)) (now (second .exit)) (now (cards .exit)) ⌝ }
+    ensures demand2 { λ r. ⌜ CardsDemand2 (now (kinds .entry)) (now (tasks .entry)) (now (operands .entry))
+        (now (ws .entry)) (now (first .entry)) (now (second .entry)) (now (cards .entry)) (heard r (now (values .exit))) ⌝ }
+    ensures demand3 { λ r. ⌜ JudgeDemand3 (now (kinds .entry)) (now (tasks .entry)) (now (operands .entry))
+        (heard r (now (values .exit))) (now (first .entry)) (now (second .entry)) (now (first .exit)) (now (second .exit)) ⌝ }
+{
+    let records = cards.len();
+    let code = cards::judge_counted(kinds, tasks, operands, ws, first, second, records, values);
+    let k = cards::due(code);
+    put_cards(cards, ws, k);
+    cards::wipe(ws, k);
+    code
 }

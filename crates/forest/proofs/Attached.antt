@@ -13,9 +13,10 @@ use lib.Seq.{getD-set-same, getD-set-other}
 use Rattle.trace.specs.Trace.{TASKS}
 use Rattle.trace.proofs.Tests.{either, same-or-not, lt-or-le}
 use Rattle.forest.specs.Forest.{LINK, SIZE, FOREST-CELLS, link, size, Chain, top, up, MAX-LINKS, topOf, linksOf}
-use Rattle.forest.specs.Forest.{countBelow, tasksUnder, IsTop, Forest, attached, merged}
+use Rattle.trace.specs.Search.{countBelow}
+use Rattle.forest.specs.Forest.{tasksUnder, IsTop, Forest, attached, merged}
 use Rattle.forest.proofs.Merged.{merged-one, merged-kept, bits-merged, test-merged}
-use Rattle.forest.proofs.Count.{count-le, count-same, count-sum}
+use Rattle.trace.proofs.Counts.{count-le, count-same, count-sum}
 use Rattle.forest.proofs.Chains.{chain-top, chain-links, chain-ends, links-bounded}
 use Rattle.forest.proofs.Tops.{top-is-top}
 

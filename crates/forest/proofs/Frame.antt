@@ -9,7 +9,7 @@ use lib.ListN.{length, getD, set, length-set}
 use lib.Seq.{getD-set-other}
 use Rattle.trace.specs.Trace.{TASKS}
 use Rattle.forest.specs.Forest.{LINK, SIZE, FOREST-CELLS, link, size, Chain, top, up, topOf, linksOf, IsTop, Forest}
-use Rattle.forest.proofs.Count.{count-same}
+use Rattle.trace.proofs.Counts.{count-same}
 use Rattle.forest.proofs.Chains.{chain-top, chain-links, chain-ends, links-bounded}
 use Rattle.forest.proofs.Tops.{top-is-top}
 

@@ -1,5 +1,4 @@
 -- Laws that belong to no one function. Crates above use Chains (`chain-few`), Tops, Start, Merged, United and Frame.
-pub mod Count
 pub mod Merged
 pub mod Chains
 pub mod Tops

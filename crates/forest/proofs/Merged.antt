@@ -6,7 +6,8 @@ use native.Mathlib.Omega.{arith}
 use borrow.Author.Tests.{eq-eqb, ne-eqb}
 use lib.Dec.{eqb}
 use Rattle.trace.proofs.Tests.{either, same-or-not}
-use Rattle.forest.specs.Forest.{bit, merged}
+use Rattle.trace.specs.Search.{bit}
+use Rattle.forest.specs.Forest.{merged}
 
 -- h is one of the two.
 abbrev pub OneOf : ℕ → ℕ → ℕ → Type 0

@@ -8,7 +8,7 @@ use lib.Dec.{eqb}
 use lib.ListN.{length, getD}
 use Rattle.trace.specs.Trace.{TASKS}
 use Rattle.forest.specs.Forest.{LINK, SIZE, FOREST-CELLS, link, size, top, topOf, linksOf, IsTop, Forest, Unitable}
-use Rattle.forest.proofs.Count.{count-same, count-one}
+use Rattle.trace.proofs.Counts.{count-same, count-one}
 use Rattle.forest.proofs.Chains.{chain-ends}
 use Rattle.forest.proofs.Tops.{top-own, links-own}
 

@@ -8,6 +8,7 @@ use mathlib.Core.Logic.{_≢_}
 use lib.Dec.{eqb, ltb}
 use lib.ListN.{length, getD, set}
 use Rattle.trace.specs.Trace.{TASKS}
+use Rattle.trace.specs.Search.{countBelow}
 
 -- ---- the two tables
 
@@ -64,16 +65,6 @@ topOf c t = topWithin MAX-LINKS c t
 
 unfoldable pub linksOf : List ℕ → ℕ → ℕ
 linksOf c t = linksWithin MAX-LINKS c t
-
--- 1 where a test passes, else 0.
-abbrev pub bit : Bool → ℕ
-bit true = 1
-bit false = 0
-
--- How many numbers below n pass a test.
-unfoldable pub countBelow : ℕ → (ℕ → Bool) → ℕ
-countBelow zero test = 0
-countBelow (suc n) test = bit (test n) + countBelow n test
 
 -- The number of tasks whose top is h.
 abbrev pub tasksUnder : List ℕ → ℕ → ℕ

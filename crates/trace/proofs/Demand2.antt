@@ -213,7 +213,8 @@ module _ (tr : Trace) (n : ℕ) where
       let b = means-is (refused number p) e .breaks-first in step-row haltOperand tr p number (b .line) (b .broken)
 
 module _ (kinds tasks operands workspace first second : List ℕ) where
-  demand-2-checked :
+  -- Whatever sizes are checked first.
+  pub demand-2-checked :
       (c : Checked ℕ) (n : ℕ) → c ≡ passes n
       → Demand2 (traceOf kinds tasks operands) n (judgeChecked kinds tasks operands workspace first second c .answer)
   unfolding judgeChecked

@@ -139,7 +139,8 @@ module _ (kinds tasks operands workspace first second : List ℕ) where
   abbrev out : Outcome
   out = judgeOutcome kinds tasks operands workspace first second
 
-  demand-3-checked :
+  -- Whatever sizes are checked first.
+  pub demand-3-checked :
       (c : Checked ℕ) → ((n : ℕ) → c ≡ passes n → length kinds ≡ n)
       → JudgeDemand3 kinds tasks operands (judgeChecked kinds tasks operands workspace first second c .answer) first second
       (judgeChecked kinds tasks operands workspace first second c .first) (judgeChecked kinds tasks operands workspace first second c .second)

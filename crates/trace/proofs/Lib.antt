@@ -16,6 +16,7 @@ pub mod OrderFacts
 pub mod Conflicts
 pub mod Numbers
 pub mod Searches
+pub mod Counts
 pub mod Sizes
 pub mod Demand2
 pub mod OrderingCall

@@ -1,8 +1,8 @@
--- The relations of `Graph` and `Race` as tests, each by a bounded search over positions. The theorems in `proofs/` say that each test is its relation.
--- Assumes nothing.
-use Prim.Native.Nat.{ℕ, zero, suc}
-use mathlib.Core.Bool.{Bool, false, cond, not, _&&_, _||_}
-use mathlib.Core.Option.{Option, none}
+-- Bounded searches over positions; and the relations of `Graph` and `Race` as tests, each by such a search. The theorems in `proofs/` say that each test is
+-- its relation. Assumes nothing.
+use Prim.Native.Nat.{ℕ, zero, suc, _+_}
+use mathlib.Core.Bool.{Bool, true, false, cond, not, _&&_, _||_}
+use mathlib.Core.Option.{Option, none, some}
 use lib.Dec.{eqb, ltb}
 use Rattle.trace.specs.Trace.{Trace, FORK, JOIN, HALT, isAccess}
 use Rattle.trace.specs.Race.{conflicting}
@@ -17,6 +17,21 @@ someBelow (suc n) test = test n || someBelow n test
 unfoldable pub leastBelow : ℕ → (ℕ → Bool) → Option ℕ
 leastBelow zero test = none
 leastBelow (suc n) test = orThis (leastBelow n test) (test n) n
+
+-- The greatest one.
+unfoldable pub greatestBelow : ℕ → (ℕ → Bool) → Option ℕ
+greatestBelow zero test = none
+greatestBelow (suc n) test = cond (test n) (some n) (greatestBelow n test)
+
+-- 1 where a test passes, else 0.
+abbrev pub bit : Bool → ℕ
+bit true = 1
+bit false = 0
+
+-- How many numbers below n pass the test.
+unfoldable pub countBelow : ℕ → (ℕ → Bool) → ℕ
+countBelow zero test = 0
+countBelow (suc n) test = bit (test n) + countBelow n test
 
 module _ (tr : Trace) where
   -- q is the next event of p's task.

@@ -1,5 +1,6 @@
 //! What the proved library said, in words for people.
 
+mod cards;
 mod collision;
 mod form;
 mod misfit;
@@ -12,6 +13,7 @@ mod ways;
 
 pub use refusal::{Reason, Refused};
 
+use crate::cards::Cards;
 use crate::phrases::{clean_before, count};
 use crate::recording::Recording;
 use crate::study::{Question, Scene, Study};
@@ -83,5 +85,16 @@ pub fn asked(question: &Question) -> String {
     if question.answer.is_ok() {
         counting(&mut page, question.recording);
     }
+    page.text()
+}
+
+/// The proved answer's line, and the cards where it is clean; else what it means.
+pub fn counted(study: &Study, busiest: bool) -> String {
+    let Some(cards) = Cards::of(study, busiest) else {
+        return judged(study, false);
+    };
+    let mut page = Page::default();
+    page.add(&study.line());
+    cards::tell(&mut page, &cards);
     page.text()
 }

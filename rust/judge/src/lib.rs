@@ -2,13 +2,15 @@
 //! said. What the library says is printed as it is; nothing else here has to be believed.
 //!
 //! Reading order: `words` (the command line), `recording` and `standard` (what is read and written),
-//! `answer`, `graph`, `why` and `study` (what is known of a trace), `phrases` and `explain` (the words
-//! for people), `json` and `objects` (the same for programs), `svg` (the picture).
+//! `answer`, `graph`, `why`, `study` and `cards` (what is known of a trace), `phrases` and
+//! `explain` (the words for people), `json` and `objects` (the same for programs), `svg` (the
+//! picture).
 
 #![deny(unsafe_code)]
 
 pub mod answer;
 mod arguments;
+pub mod cards;
 pub mod explain;
 pub mod graph;
 pub mod json;

@@ -1,6 +1,7 @@
 //! The answers as JSON, one object a line. Events and positions count from 0, lines of a text from 1.
 
 use crate::answer::Answer;
+use crate::cards::{Cards, Touched, COUNTS};
 use crate::explain::{Reason, Refused};
 use crate::json::Json;
 use crate::recording::Recording;
@@ -20,13 +21,7 @@ pub fn unread(file: &OsStr, wrong: &str) -> String {
 
 /// A file that was judged.
 pub fn judged(file: &OsStr, study: &Study, picture: &Picture) -> String {
-    let mut fields = head(study.line(), study.scene.as_ref());
-    match &study.answer {
-        Err(refusal) => {
-            fields.extend(refused(study.recording, study.scene.as_ref(), refusal));
-        }
-        answer => fields.extend(race(answer, study)),
-    }
+    let mut fields = answered(study);
     match picture {
         Picture::Unwanted => {}
         Picture::Drawn(path) => fields.push(("picture", lossy(path.as_encoded_bytes()).into())),
@@ -34,6 +29,16 @@ pub fn judged(file: &OsStr, study: &Study, picture: &Picture) -> String {
         Picture::Failed(wrong) => {
             fields.extend([("picture", Json::Null), ("error", wrong.as_str().into())]);
         }
+    }
+    line(file, fields)
+}
+
+/// A file that was judged, with its cards where it is clean.
+pub fn counted(file: &OsStr, study: &Study, busiest: bool) -> String {
+    let mut fields = answered(study);
+    if let Some(Cards { scene, touched }) = Cards::of(study, busiest) {
+        let cards: Vec<Json> = touched.iter().map(|it| card(scene, it)).collect();
+        fields.push(("cards", cards.into()));
     }
     line(file, fields)
 }
@@ -75,6 +80,16 @@ fn head(line: String, scene: Option<&Scene>) -> Fields {
         ("events", scene.map(|scene| scene.trace.len()).into()),
         ("tasks", scene.map(|scene| scene.graph.columns().len()).into()),
     ]
+}
+
+/// What every file has that was judged.
+fn answered(study: &Study) -> Fields {
+    let mut fields = head(study.line(), study.scene.as_ref());
+    fields.extend(match &study.answer {
+        Err(refusal) => refused(study.recording, study.scene.as_ref(), refusal),
+        answer => race(answer, study),
+    });
+    fields
 }
 
 fn race(answer: &Answer, study: &Study) -> Fields {
@@ -126,6 +141,20 @@ fn event(scene: &Scene, p: usize) -> Json {
         ("source", place.map(|place| place.source).into()),
         ("text", scene.line(p).map(lossy).into()),
     ])
+}
+
+fn card(scene: &Scene, touched: &Touched) -> Json {
+    let Touched { location, card, first, last } = *touched;
+    let line_of = |p: usize| scene.place(p).map(|place| place.line).into();
+    let mut fields = vec![("location", location.into())];
+    fields.extend(COUNTS.iter().map(|(name, count)| (*name, count(&card).into())));
+    fields.extend([
+        ("first", first.into()),
+        ("last", last.into()),
+        ("first_line", line_of(first)),
+        ("last_line", line_of(last)),
+    ]);
+    Json::Object(fields)
 }
 
 fn refused(recording: &Recording, scene: Option<&Scene>, refusal: &Refusal) -> Fields {

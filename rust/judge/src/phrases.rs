@@ -42,9 +42,14 @@ fn list(numbers: &[u16]) -> String {
     numbers.iter().map(u16::to_string).collect::<Vec<_>>().join(", ")
 }
 
-/// `1 event`, `1,234 events`.
+/// `1 event`, `1,234 events`, `2 accesses`.
 pub fn count(number: usize, one: &str) -> String {
-    format!("{} {one}{}", grouped(number), if number == 1 { "" } else { "s" })
+    let end = match number {
+        1 => "",
+        _ if one.ends_with('s') => "es",
+        _ => "s",
+    };
+    format!("{} {one}{end}", grouped(number))
 }
 
 /// A number as people write it, `32,768`.
@@ -120,6 +125,12 @@ mod tests {
     #[test]
     fn limits_are_grouped() {
         assert_eq!([0, 999, 1_023, 1_000_007].map(grouped), ["0", "999", "1,023", "1,000,007"]);
+    }
+
+    #[test]
+    fn one_is_no_plural() {
+        assert_eq!([0, 1, 2].map(|it| count(it, "event")), ["0 events", "1 event", "2 events"]);
+        assert_eq!([1, 1_234].map(|it| count(it, "access")), ["1 access", "1,234 accesses"]);
     }
 
     #[test]

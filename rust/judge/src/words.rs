@@ -1,15 +1,19 @@
 //! The words of the command line: the table of them, and how one is run.
 
+mod cards;
+mod files;
 mod judge;
 mod order;
 
 pub use judge::Picture;
 
+use crate::answer::Answer;
 use crate::arguments::{Arguments, Options};
 use crate::objects;
 use crate::phrases::printable;
 use crate::recording::STANDARD_INPUT;
 use crate::standard::{complain, fault, print};
+use racejudge::Verdict;
 use std::ffi::{OsStr, OsString};
 use std::io;
 
@@ -23,6 +27,16 @@ pub enum Status {
     Refused = 2,
     /// Something could not be judged, or what was said of it could not be written.
     Unjudged = 3,
+}
+
+impl Status {
+    fn of(answer: &Answer) -> Status {
+        match answer {
+            Ok(Verdict::Clean) => Status::Good,
+            Ok(Verdict::Race { .. }) => Status::Bad,
+            Err(_) => Status::Refused,
+        }
+    }
 }
 
 impl From<Status> for std::process::ExitCode {
@@ -54,16 +68,24 @@ struct Word {
     about: &'static str,
     /// What its own help says besides.
     help: &'static str,
+    /// What its exit statuses mean.
+    statuses: &'static str,
     options: Options,
     run: fn(Arguments) -> Result<Status, Failure>,
 }
 
 /// The first is run where no word is given.
-const WORDS: [Word; 2] = [judge::WORD, order::WORD];
+const WORDS: [Word; 3] = [judge::WORD, order::WORD, cards::WORD];
 
 const JSON: &str = "--json";
 const HELP: &str = "--help";
 const VERSION: &str = "--version";
+
+/// The statuses of a word that judges files.
+const JUDGED: &str = "
+Status: 0 all clean, 1 a race, 2 a refusal, 3 something could not be judged, or the command line is
+wrong, or the output could not be written. Of several files the highest counts.
+";
 
 /// Runs the command with these arguments, and tells on standard error what goes wrong.
 pub fn run(mut given: Vec<OsString>) -> Status {
@@ -119,7 +141,7 @@ impl Word {
             }
             page += &format!("judge WORD {HELP}\njudge {VERSION}\n");
         }
-        page + self.help
+        page + self.help + self.statuses
     }
 }
 

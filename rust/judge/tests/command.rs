@@ -133,6 +133,13 @@ fn a_wrong_command_line_is_told() {
     wrong_usage(&["order", text, "1", "-2"], "there is no option -2");
     wrong_usage(&["order", "--orders", text, "1", "2"], "there is no option --orders");
     wrong_usage(&["order", "--version"], "there is no option --version");
+    wrong_usage(&["cards"], "no file is given");
+    wrong_usage(&["cards", "--busiest", "--json"], "no file is given");
+    wrong_usage(&["cards", "-", "/dev/stdin"], twice);
+    wrong_usage(&["cards", "--busy", text], "there is no option --busy");
+    wrong_usage(&["cards", "--orders", text], "there is no option --orders");
+    wrong_usage(&["cards", "--svg", &picture, text], "there is no option --svg");
+    wrong_usage(&["--busiest", text], "there is no option --busiest");
 }
 
 #[test]
@@ -142,15 +149,17 @@ fn help_and_version_are_printed() {
     assert_eq!((said.status, said.out, said.err), (0, version, String::new()));
     let help = run(["--help"]);
     assert_eq!((help.status, help.err.as_str()), (0, ""));
-    for line in ["judge [--json] [--svg FILE] [--orders] FILE...", "judge order [--json] FILE P Q"]
+    assert_eq!(help.out.lines().nth(2), Some("judge [--json] [--svg FILE] [--orders] FILE..."));
+    for (word, usage) in [("order", "[--json] FILE P Q"), ("cards", "[--busiest] [--json] FILE...")]
     {
+        let line = format!("judge {word} {usage}");
         assert!(help.out.lines().any(|it| it == line), "{line}");
-    }
-    let order = run(["order", "--help"]);
-    assert_eq!(order.status, 0);
-    assert_eq!(order.out.lines().nth(2), Some("judge order [--json] FILE P Q"));
-    for page in [help.out, order.out] {
-        assert!(page.lines().all(|line| line.len() <= 100), "{page}");
+        let own = run([word, "--help"]);
+        assert_eq!((own.status, own.out.lines().nth(2)), (0, Some(line.as_str())));
+        for page in [&help.out, &own.out] {
+            assert!(page.lines().all(|line| line.len() <= 100), "{page}");
+            assert!(page.contains("\n\nStatus: 0 ") && page.contains("\n  --json "), "{page}");
+        }
     }
     // It is asked for wherever it stands among the options, and not behind their end.
     assert_eq!(run(["missing", "--help"]).out, run(["--help"]).out);
@@ -266,7 +275,7 @@ fn long_orders_are_cut_around_the_pair_or_printed_whole() {
         // What is left out and what is shown are all that stands on either side.
         assert_eq!((told(before), told(after)), (151, 1), "{row}");
     }
-    assert!(cut.out.contains("--orders prints them whole"));
+    assert!(cut.out.contains(" in brackets (judge --orders has all):\n"));
     let whole = run(["--orders".as_ref(), text.as_os_str()]);
     let [one, other] = &rows(&whole)[..] else { panic!("{}", whole.out) };
     let events: Vec<String> = (0..=100).chain(103..=152).map(|p| p.to_string()).collect();

@@ -1,5 +1,5 @@
 //! What the command says of each text of examples/, in words and as JSON, against tests/expected;
-//! the picture that is kept; and what the documents show of them.
+//! the cards of the clean ones; the picture that is kept; and what the documents show of them.
 //!
 //! With JUDGE_EXPECTED=write in the environment the expected files and the picture are written anew,
 //! to be read through before they are kept.
@@ -88,6 +88,25 @@ fn each_example_is_told_as_json() {
     });
 }
 
+/// The others have none: their answer is explained.
+#[test]
+fn each_clean_example_has_cards() {
+    let is_clean = |name: &String| say(name, &[]).status == 0;
+    let (clean, others): (BTreeSet<String>, BTreeSet<String>) =
+        names(&examples(), ".std").into_iter().partition(is_clean);
+    for (end, options) in [(".txt", &["cards"][..]), (".json", &["cards", "--json"])] {
+        for name in &clean {
+            let said = say(name, options);
+            hold(&expected("cards").join(format!("{name}{end}")), &said.out);
+            assert_eq!((said.status, said.err.as_str()), (0, ""), "{name}");
+        }
+        assert_eq!(names(&expected("cards"), end), clean, "{end}");
+    }
+    for name in &others {
+        assert_eq!(say(name, &["cards"]), say(name, &[]));
+    }
+}
+
 /// The one that is kept beside the examples, for the README.
 #[test]
 fn the_picture_is_the_one_that_is_kept() {
@@ -99,14 +118,19 @@ fn the_picture_is_the_one_that_is_kept() {
     hold(&examples().join("pipeline_race.svg"), &drawn);
 }
 
-/// The first thing that a newcomer reads is what the command says.
+/// The first thing that a newcomer reads is what the command says; so with the cards.
 #[test]
-fn the_readme_shows_what_is_said() {
-    let readme = fs::read_to_string(examples().join("../README.md")).expect("it can be read");
-    let said = fs::read_to_string(expected("pipeline_race.txt")).expect("it can be read");
-    let indented = |line: &str| if line.is_empty() { "\n".into() } else { format!("    {line}\n") };
-    let shown: String = said.lines().map(indented).collect();
-    assert!(readme.contains(&shown), "README.md does not show\n{shown}");
+fn the_readmes_show_what_is_said() {
+    for (readme, said) in
+        [("README.md", "pipeline_race.txt"), ("rust/README.md", "cards/pipeline.txt")]
+    {
+        let text = fs::read_to_string(examples().join("..").join(readme)).expect("it can be read");
+        let said = fs::read_to_string(expected(said)).expect("it can be read");
+        let indented =
+            |line: &str| if line.is_empty() { "\n".into() } else { format!("    {line}\n") };
+        let shown: String = said.lines().map(indented).collect();
+        assert!(text.contains(&shown), "{readme} does not show\n{shown}");
+    }
 }
 
 /// The README of the examples has the first line of each.

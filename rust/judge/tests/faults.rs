@@ -30,6 +30,7 @@ fn a_closed_standard_input_is_no_empty_one() {
     let closed = redirected("<&-", &["/dev/stdin"]);
     let told = "judge: /dev/stdin cannot be read: standard input is closed\n";
     assert_eq!((closed.status, closed.out.as_str(), closed.err.as_str()), (3, "", told));
+    assert_eq!(redirected("<&-", &["cards", "/dev/stdin"]), closed);
     // A file is judged all the same.
     let text = file(DOCUMENT);
     assert_eq!(redirected("<&-", &[text.to_str().unwrap()]), run([&text]));
@@ -52,13 +53,16 @@ fn a_standard_input_that_cannot_be_read_is_told() {
 
 #[test]
 fn lost_output_is_told() {
-    let text = file(DOCUMENT);
-    let text = text.to_str().unwrap();
-    let runs: [&[&str]; 6] = [
+    let (text, clean) = (file(DOCUMENT), file("T0|w(V5)|1\n"));
+    let (text, clean) = (text.to_str().unwrap(), clean.to_str().unwrap());
+    let runs: [&[&str]; 9] = [
         &[text],
         &["--json", text],
         &["order", text, "0", "1"],
         &["order", "--json", text, "0", "1"],
+        &["cards", text],
+        &["cards", clean],
+        &["cards", "--json", clean],
         &["--help"],
         &["--version"],
     ];
@@ -298,12 +302,16 @@ fn noise_is_answered_or_told_and_nothing_panics() {
         let words = run([&path]);
         let json = run(["--json".as_ref(), path.as_os_str()]);
         let order = run(["order".as_ref(), path.as_os_str(), "0".as_ref(), "1".as_ref()]);
+        let cards = run(["cards".as_ref(), path.as_os_str()]);
         assert_eq!(words.status, json.status, "{bytes:?}");
+        assert_eq!(words.status, cards.status, "{bytes:?}");
+        assert_eq!(words == cards, words.status > 0, "{bytes:?}");
         assert_eq!(words.out.is_empty(), words.status == 3, "{bytes:?}");
         assert_eq!(words.err.is_empty(), words.status < 3, "{bytes:?}");
         assert_eq!(order.status == 3, words.status == 3, "{bytes:?}");
         common::json::Json::parse(json.out.trim_end()).expect("it is JSON");
-        assert!(words.out.bytes().all(|byte| matches!(byte, b'\n' | b' '..=b'~')), "{bytes:?}");
+        let mut told = [words.out, cards.out].concat().into_bytes().into_iter();
+        assert!(told.all(|byte| matches!(byte, b'\n' | b' '..=b'~')), "{bytes:?}");
         met[words.status as usize] += 1;
     }
     assert!(met[1] > 20 && met[2] > 100 && met[3] > 50, "{met:?}");

@@ -1,13 +1,15 @@
-//! What the command says against the slow judge, which stores all ancestors of all events: on random
-//! texts and traces, in this process and through the command itself.
+//! What the command says against the slow judge, which stores all ancestors of all events, and
+//! against a plain count: on random texts and traces, in this process and through the command
+//! itself.
 
 mod common;
 
+use common::cards::{busiest_first, counted, hold, listed};
 use common::json::Json;
 use common::{file, proved, run};
-use judge::explain;
 use judge::recording::Recording;
 use judge::study::{Question, Study};
+use judge::{explain, objects};
 use racejudge_bench::ancestors::Ancestors;
 use racejudge_bench::rng::Rng;
 use racejudge_bench::trace::{Answer, Ordering, FORK, JOIN, MAX_EVENTS, READ, WORKSPACE, WRITE};
@@ -195,6 +197,47 @@ fn questions_are_answered_as_by_the_slow_judge() {
     met.each(&["yes", "no", "7", "13"], 20);
 }
 
+/// The cards of a recording that the slow judge has answered so: a plain count where it is clean,
+/// else nothing but the answer.
+fn hold_cards(recording: &Recording, answer: &str) {
+    let study = Study::new(recording);
+    let is_clean = answer.starts_with("clean ");
+    let trace = recording.trace.as_ref().ok().filter(|_| is_clean);
+    let rows = trace.map(|trace| counted(trace, recording.text.is_some()));
+    for (busiest, rows) in [(false, rows.clone()), (true, rows.map(busiest_first))] {
+        let words = explain::counted(&study, busiest);
+        let object = objects::counted("-".as_ref(), &study, busiest);
+        let object = Json::parse(object.trim_end()).expect("it is JSON");
+        assert_eq!(object.names().contains(&"cards"), is_clean, "{words}");
+        match rows {
+            Some(rows) => {
+                hold(&words, &rows);
+                assert_eq!(listed(&object), rows, "{words}");
+            }
+            None => assert_eq!(words, explain::judged(&study, false)),
+        }
+    }
+}
+
+#[test]
+fn cards_are_a_plain_count() {
+    let mut rng = Rng::new(16);
+    let mut met = Met::default();
+    for _ in 0..4_000 {
+        let (bytes, wanted) = if rng.chance(1, 2) {
+            let bytes = random_text(&mut rng);
+            let wanted = text::answer(&bytes);
+            (bytes, wanted)
+        } else {
+            let trace = trace(&mut rng, 80);
+            (proved(&trace).to_binary().expect("few events"), slow_answer(&trace))
+        };
+        hold_cards(&Recording::of(bytes).expect("it can be judged"), &wanted);
+        met.count(&wanted);
+    }
+    met.each(&["clean", "race", "7", "14"], 100);
+}
+
 #[test]
 fn the_command_says_the_same_of_texts() {
     let mut rng = Rng::new(14);
@@ -232,6 +275,11 @@ fn the_command_says_the_same_of_long_traces() {
         let json = run(["--json".as_ref(), path.as_os_str()]);
         assert_eq!(answer_in(&words.out), wanted);
         assert_eq!(answer_of(&json.out), wanted);
+        let cards = run(["cards".as_ref(), path.as_os_str()]);
+        match words.status {
+            0 => hold(&cards.out, &counted(&proved(&trace), false)),
+            _ => assert_eq!(cards, run([&path])),
+        }
         met.count(&wanted);
     }
     met.each(&["clean", "race"], 3);

@@ -1,9 +1,10 @@
 //! A proved judge of data races in fork-join traces.
 //!
 //! A [`Trace`] is what one serial run of a fork-join program did, event by event. [`judge`] says
-//! whether two of its accesses could happen in either order; [`reaches`] whether a path of forks
-//! and joins leads from one event to another. The answers come from a library whose every answer
-//! is proved: *clean* means that there is no race, and not that none was seen.
+//! whether two of its accesses could happen in either order; [`cards`] what a clean trace does to
+//! each location; [`reaches`] whether a path of forks and joins leads from one event to another.
+//! The answers come from a library whose every answer is proved: *clean* means that there is no
+//! race, and not that none was seen.
 //!
 //! # A worked example
 //!
@@ -11,7 +12,7 @@
 //! task 1, so nothing orders the two:
 //!
 //! ```
-//! use racejudge::{judge, reaches, Trace, Verdict};
+//! use racejudge::{cards, judge, reaches, Card, Trace, Verdict};
 //!
 //! let trace = Trace::from_text("T0|fork(T1)|10\nT1|w(V5)|20\nT0|r(V5)|30\n")?;
 //!
@@ -33,6 +34,10 @@
 //! let joined = Trace::from_text("T0|fork(T1)|10\nT1|w(V5)|20\nT0|join(T1)|25\nT0|r(V5)|30\n")?;
 //! assert_eq!(judge(&joined)?, Verdict::Clean);
 //! assert!(reaches(&joined, 1, 4)?);
+//!
+//! // What the clean trace does to location 5.
+//! let told = cards(&joined)?.expect("no race");
+//! assert_eq!(told[5], Card { reads: 1, writes: 1, first: 1, last: 4 });
 //! # Ok::<(), racejudge::Refusal>(())
 //! ```
 //!
@@ -56,6 +61,7 @@
 #![deny(unsafe_code, unsafe_op_in_unsafe_fn)]
 
 mod binary;
+mod card;
 mod event;
 #[allow(unsafe_code)]
 pub mod raw;
@@ -64,10 +70,11 @@ mod trace;
 mod verdict;
 
 pub use binary::Damage;
+pub use card::Card;
 pub use event::{Event, Kind, UnknownKind};
 pub use refusal::Refusal;
 pub use trace::{Place, Trace};
-pub use verdict::{judge, reaches, Verdict};
+pub use verdict::{cards, judge, reaches, Verdict};
 
 /// The most events that a trace may have.
 pub const MAX_EVENTS: usize = 32_768;

@@ -14,11 +14,16 @@
 //! assert_eq!((told.code, told.values), (raw::REFUSED, [3, 0]));
 //! ```
 
+use crate::Card;
+
 /// The file name of the archive that is linked.
 pub const ARCHIVE: &str = env!("RACEJUDGE_ARCHIVE");
 
 /// The workspace has at least this many cells more than the trace has events.
 pub const WORKSPACE: usize = 12_288;
+
+/// The first and the last position on the card of a location that no event touches.
+pub const NOWHERE: u16 = u16::MAX;
 
 /// The judge: no race, and the rules are kept.
 pub const CLEAN: u64 = 0;
@@ -30,7 +35,7 @@ pub const NO: u64 = 0;
 pub const YES: u64 = 1;
 /// The translation: a trace; the first value is the number of its events.
 pub const TRANSLATED: u64 = 0;
-/// All three calls: a refusal; the values are its row and position.
+/// All calls: a refusal; the values are its row and position.
 pub const REFUSED: u64 = 2;
 /// The translation: a slice has fewer than [`MAX_TEXT_EVENTS`](crate::MAX_TEXT_EVENTS) cells.
 pub const SHORT: u64 = 3;
@@ -61,12 +66,18 @@ macro_rules! told {
     }};
 }
 
-/// The parameters of the three calls, once: for the type of a call, and for functions of that type
+/// The parameters of the calls, once: for the type of a call, and for functions of that type
 /// under any name, as `foreign!(judge fn other_judge)`.
 #[doc(hidden)]
 #[macro_export]
 macro_rules! foreign {
     (judge $($declared:tt)*) => {
+        $crate::foreign! { @judge[$($declared)*] () }
+    };
+    (judge_cards $($declared:tt)*) => {
+        $crate::foreign! { @judge[$($declared)*] (cards: *mut $crate::Card, cards_len: usize,) }
+    };
+    (@judge[$($declared:tt)*] ($($more:tt)*)) => {
         $crate::foreign! { @[$($declared)*] (
             kinds: *const u8, kinds_len: usize,
             tasks: *const u16, tasks_len: usize,
@@ -74,6 +85,7 @@ macro_rules! foreign {
             workspace: *mut u16, workspace_len: usize,
             first: *mut u16, first_len: usize,
             second: *mut u16, second_len: usize,
+            $($more)*
             values: *mut [u64; 2],
         ) }
     };
@@ -117,6 +129,9 @@ foreign!(ordering
 foreign!(judge
     /// The library's [`judge`].
     pub fn racejudge_judge);
+foreign!(judge_cards
+    /// The library's [`judge_cards`].
+    pub fn racejudge_judge_cards);
 foreign!(ordering
     /// The library's [`ordering`].
     pub fn racejudge_ordering);
@@ -135,6 +150,36 @@ pub fn judge(
 ) -> Told {
     // Safe: the library's own function keeps within what it is lent, whatever that holds.
     unsafe { judge_by(racejudge_judge, kinds, tasks, operands, workspace, first, second) }
+}
+
+/// Judges a trace as [`judge`] does. After clean the first [`LOCATIONS`](crate::LOCATIONS) of the
+/// cards are those of the locations; with fewer the call is refused by row 16.
+///
+/// ```
+/// use racejudge::{raw, Card, LOCATIONS};
+///
+/// let (mut workspace, mut first, mut second) = ([0; raw::WORKSPACE + 1], [0; 1], [0; 1]);
+/// let mut judge_lent = |cards: &mut [Card]| {
+///     raw::judge_cards(&[0], &[0], &[5], &mut workspace, &mut first, &mut second, cards)
+/// };
+/// let mut cards = [Card::UNTOUCHED; LOCATIONS];
+/// assert_eq!(judge_lent(&mut cards).code, raw::CLEAN);
+/// assert_eq!(cards[5], Card { reads: 1, writes: 0, first: 0, last: 0 });
+///
+/// let told = judge_lent(&mut cards[1..]);
+/// assert_eq!((told.code, told.values), (raw::REFUSED, [16, 0]));
+/// ```
+pub fn judge_cards(
+    kinds: &[u8],
+    tasks: &[u16],
+    operands: &[u16],
+    workspace: &mut [u16],
+    first: &mut [u16],
+    second: &mut [u16],
+    cards: &mut [Card],
+) -> Told {
+    // Safe, as in `judge`.
+    told!(racejudge_judge_cards, [kinds, tasks, operands], [workspace, first, second, cards])
 }
 
 /// Does event `p` reach event `q`?

@@ -21,7 +21,7 @@ use std::fmt;
 /// ```
 #[derive(Clone, Copy, Debug, PartialEq, Eq, Hash)]
 pub struct Refusal {
-    /// The condition's number, 1 to 15.
+    /// The condition's number, 1 to 16.
     pub row: usize,
     /// The event for rows 5 to 12 and the text's line for rows 14 and 15, counted from 0; else 0.
     pub position: usize,
@@ -64,13 +64,14 @@ impl Refusal {
                  `Ta|join(Tb)|c` with numbers from 0 to 65,535 and a line feed at its end"
             }
             15 => "with this line the text makes more than 2,048 events",
+            16 => "there are fewer than 1,024 cards",
             _ => "no row of the table has this number",
         }
     }
 
     fn counted(&self) -> Counted {
         match self.row {
-            1..=4 | 13 => Counted::Nothing,
+            1..=4 | 13 | 16 => Counted::Nothing,
             5..=12 => Counted::Events,
             14 | 15 => Counted::Lines,
             _ => Counted::Unknown,

@@ -1,7 +1,7 @@
-//! The two questions about a trace, with buffers of their own.
+//! The questions about a trace, with buffers of their own.
 
 use crate::raw::{self, WORKSPACE};
-use crate::{Refusal, Trace, MAX_EVENTS};
+use crate::{Card, Refusal, Trace, LOCATIONS, MAX_EVENTS};
 
 /// What the judge says of a trace that keeps the rules up to the first race.
 #[derive(Clone, Debug, PartialEq, Eq)]
@@ -41,8 +41,7 @@ pub enum Verdict {
 ///
 /// A refusal by row 1 or 2 or, where no access before it races, by one of the rows 5 to 12.
 pub fn judge(trace: &Trace) -> Result<Verdict, Refusal> {
-    let n = judged_events(trace);
-    let (mut workspace, mut first, mut second) = (vec![0; WORKSPACE + n], vec![0; n], vec![0; n]);
+    let (mut workspace, mut first, mut second) = judge_buffers(trace);
     let told = raw::judge(
         trace.kinds(),
         trace.tasks(),
@@ -59,6 +58,45 @@ pub fn judge(trace: &Trace) -> Result<Verdict, Refusal> {
             second.truncate(t + 1);
             Ok(Verdict::Race { s, t, first, second })
         }
+        _ => Err(Refusal::told(told)),
+    }
+}
+
+/// What a clean trace does to each location: the [`LOCATIONS`] cards, that of location l at l. None
+/// where the trace has a race, which [`judge`] names.
+///
+/// ```
+/// use racejudge::{cards, Card, Event, Trace};
+///
+/// let mut trace = Trace::default();
+/// trace.extend([Event::fork(0, 1), Event::read(1, 5), Event::halt(1), Event::read(0, 5)]);
+/// let told = cards(&trace)?.expect("no race");
+/// assert_eq!(told[5], Card { reads: 2, writes: 0, first: 1, last: 3 });
+/// assert_eq!(told[6], Card::UNTOUCHED);
+///
+/// trace.push(Event::write(0, 5));
+/// assert_eq!(cards(&trace)?, None);
+/// # Ok::<(), racejudge::Refusal>(())
+/// ```
+///
+/// # Errors
+///
+/// A refusal, exactly where [`judge`] gives it.
+pub fn cards(trace: &Trace) -> Result<Option<Vec<Card>>, Refusal> {
+    let (mut workspace, mut first, mut second) = judge_buffers(trace);
+    let mut cards = vec![Card::UNTOUCHED; LOCATIONS];
+    let told = raw::judge_cards(
+        trace.kinds(),
+        trace.tasks(),
+        trace.operands(),
+        &mut workspace,
+        &mut first,
+        &mut second,
+        &mut cards,
+    );
+    match told.code {
+        raw::CLEAN => Ok(Some(cards)),
+        raw::RACE => Ok(None),
         _ => Err(Refusal::told(told)),
     }
 }
@@ -89,6 +127,12 @@ pub fn reaches(trace: &Trace, p: usize, q: usize) -> Result<bool, Refusal> {
         raw::YES => Ok(true),
         _ => Err(Refusal::told(told)),
     }
+}
+
+/// The workspace and the two order buffers.
+fn judge_buffers(trace: &Trace) -> (Vec<u16>, Vec<u16>, Vec<u16>) {
+    let n = judged_events(trace);
+    (vec![0; WORKSPACE + n], vec![0; n], vec![0; n])
 }
 
 /// For how many events buffers are needed: a longer trace is refused before their lengths count.

@@ -1,6 +1,6 @@
 //! Whatever comes in, something is said of it, and nothing panics.
 
-use racejudge::{judge, raw, reaches, Event, Trace, Verdict, MAX_TEXT_EVENTS};
+use racejudge::{cards, judge, raw, reaches, Card, Event, Kind, Trace, Verdict, MAX_TEXT_EVENTS};
 use racejudge_bench::rng::Rng;
 
 struct Noise(Rng);
@@ -52,6 +52,13 @@ fn asked(trace: &Trace, noise: &mut Noise) {
     let path = reaches(trace, noise.below(trace.len() + 1), far);
     if verdict == Ok(Verdict::Clean) {
         assert!(path.map_or_else(|refusal| refusal.row == 13, |_| true));
+    }
+    match (cards(trace), verdict) {
+        (Ok(Some(cards)), Ok(Verdict::Clean)) => {
+            let accesses = trace.events().filter(|event| event.kind().is_some_and(Kind::is_access));
+            assert_eq!(cards.iter().map(Card::accesses).sum::<usize>(), accesses.count());
+        }
+        (cards, verdict) => assert_eq!(cards, verdict.map(|_| None)),
     }
     trace.events().for_each(|event| drop(event.to_string()));
 }

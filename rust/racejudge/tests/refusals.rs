@@ -1,6 +1,8 @@
 //! Every row of document 01's table: how it is met, and what is said of it.
 
-use racejudge::{judge, raw, reaches, Event, Refusal, Trace, LOCATIONS, MAX_EVENTS, TASKS};
+use racejudge::{
+    cards, judge, raw, reaches, Card, Event, Refusal, Trace, LOCATIONS, MAX_EVENTS, TASKS,
+};
 use std::collections::HashSet;
 use std::error::Error;
 
@@ -10,10 +12,11 @@ fn trace(events: &[Event]) -> Trace {
     events.iter().copied().collect()
 }
 
-/// Both calls refuse alike, whatever is asked.
+/// All calls refuse alike, whatever is asked.
 fn refused(trace: &Trace, row: usize, position: usize) {
     let refusal = Refusal { row, position };
     assert_eq!(judge(trace), Err(refusal));
+    assert_eq!(cards(trace), Err(refusal));
     assert_eq!(reaches(trace, 0, 0), Err(refusal));
     assert_eq!(reaches(trace, usize::MAX, usize::MAX), Err(refusal));
 }
@@ -90,10 +93,18 @@ fn rows_14_and_15() {
 }
 
 #[test]
+fn row_16_which_only_a_lender_of_cards_meets() {
+    let (mut workspace, mut order) = ([7; raw::WORKSPACE + 1], [7; 1]);
+    let mut few = [Card::UNTOUCHED; LOCATIONS - 1];
+    let told = raw::judge_cards(&[0], &[0], &[0], &mut workspace, &mut [7], &mut order, &mut few);
+    assert_eq!((told.code, told.values), (raw::REFUSED, [16, 0]));
+}
+
+#[test]
 fn each_row_has_a_sentence_of_its_own() {
-    let refusals = || (1..=15).map(|row| Refusal { row, position: 4_711 });
+    let refusals = || (1..=16).map(|row| Refusal { row, position: 4_711 });
     let meanings: HashSet<&str> = refusals().map(|refusal| refusal.meaning()).collect();
-    assert_eq!(meanings.len(), 15);
+    assert_eq!(meanings.len(), 16);
     for refusal in refusals() {
         let (sentence, row) = (refusal.to_string(), refusal.row);
         assert!(sentence.contains(&format!("row {row}:")), "{sentence}");
@@ -110,7 +121,7 @@ fn each_row_has_a_sentence_of_its_own() {
 
 #[test]
 fn a_row_that_is_not_known_is_told_too() {
-    for row in [0, 16, usize::MAX] {
+    for row in [0, 17, usize::MAX] {
         let sentence = Refusal { row, position: usize::MAX }.to_string();
         let start = format!("refused by row {row} at position {}: ", usize::MAX);
         assert!(sentence.starts_with(&start), "{sentence}");

@@ -10,7 +10,7 @@ mod peers;
 mod rows;
 mod tables;
 
-use peers::{Peer, Peers, PEERS};
+use peers::{Peer, Peers};
 use racejudge_bench::ffi;
 use racejudge_bench::program::print;
 use racejudge_bench::rng::Rng;
@@ -20,22 +20,18 @@ use rows::Row;
 /// The matrix is timed on the first trace of a row only, and in the first rounds.
 const MATRIX_ROUNDS: usize = 3;
 
-fn skip(peer: Peer, row: &Row, trace: usize, round: usize, matrix: bool) -> bool {
-    match peer {
-        Peer::FastTrack => !row.judged(),
-        Peer::Ancestors => !(matrix && row.judged() && trace == 0 && round < MATRIX_ROUNDS),
-        _ => false,
-    }
+fn skip(peer: Peer, trace: usize, round: usize, matrix: bool) -> bool {
+    peer == Peer::Ancestors && !(matrix && trace == 0 && round < MATRIX_ROUNDS)
 }
 
 /// One round over all rows.
 fn go_round(peers: &mut Peers, rows: &mut [Row], round: usize, matrix: bool, rng: &mut Rng) {
     for row in rows {
         for trace in 0..row.traces() {
-            let mut order = PEERS;
+            let mut order = row.peers.to_vec();
             rng.shuffle(&mut order);
             for peer in order {
-                if !skip(peer, row, trace, round, matrix) {
+                if !skip(peer, trace, round, matrix) {
                     row.measure(peers, peer, trace);
                 }
             }
@@ -53,14 +49,17 @@ fn main() {
     rows.extend(rows::growth(&mut peers, traces, &mut rng));
     let ordering = rows.len();
     rows.extend(rows::ordering(&mut peers, traces, &mut rng));
+    let cards = rows.len();
+    rows.extend(rows::cards(&mut peers, traces, &mut rng));
     print(&format!("all judges agree on every trace; {rounds} rounds\n"));
     for round in 0..rounds {
         go_round(&mut peers, &mut rows, round, matrix, &mut rng);
     }
-    let (workloads, growth, ordering) =
-        (&rows[..growth], &rows[growth..ordering], &rows[ordering..]);
+    let (workloads, growth) = (&rows[..growth], &rows[growth..ordering]);
+    let (ordering, cards) = (&rows[ordering..cards], &rows[cards..]);
     print(&tables::workloads(workloads));
     print(&tables::growth(growth));
     print(&tables::ordering(ordering));
-    print(&tables::summary(workloads, growth, ordering));
+    print(&tables::cards(cards));
+    print(&tables::summary(workloads, growth, ordering, cards));
 }

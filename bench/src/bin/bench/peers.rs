@@ -1,14 +1,15 @@
 //! What is measured: the linked judge, its peers, and the buffers that are lent to them.
 
 use racejudge_bench::ancestors::Ancestors;
+use racejudge_bench::cards::cards;
 use racejudge_bench::fasttrack::FastTrack;
-use racejudge_bench::ffi::{self, Judge, Told, PROVED, TWO_ORDERS, UNION_FIND};
+use racejudge_bench::ffi::{self, Judge, Record, Told, PROVED, TWO_ORDERS, UNION_FIND};
 use racejudge_bench::program::mismatch;
 use racejudge_bench::trace::*;
 use std::hint::black_box;
 use std::time::Instant;
 
-/// In the order of the columns.
+/// What is timed.
 #[derive(Clone, Copy, PartialEq)]
 pub enum Peer {
     Judge,
@@ -17,12 +18,22 @@ pub enum Peer {
     FastTrack,
     Ancestors,
     Floor,
+    /// The judge with cards.
+    Cards,
+    /// The cards by hand.
+    Pass,
 }
 
-pub const PEERS: [Peer; 6] =
+/// Those that run on the traces of a table, in the order of its columns.
+pub const JUDGING: [Peer; 6] =
     [Peer::Judge, Peer::TwoOrders, Peer::UnionFind, Peer::FastTrack, Peer::Ancestors, Peer::Floor];
+pub const ORDERING: [Peer; 4] = [Peer::Judge, Peer::TwoOrders, Peer::UnionFind, Peer::Floor];
+pub const CARDS: [Peer; 3] = [Peer::Cards, Peer::Judge, Peer::Pass];
 
 impl Peer {
+    /// How many there are.
+    pub const COUNT: usize = Peer::Pass as usize + 1;
+
     pub fn name(self) -> &'static str {
         match self {
             Peer::Judge => "judge",
@@ -31,6 +42,8 @@ impl Peer {
             Peer::FastTrack => "FastTrack",
             Peer::Ancestors => "ancestors",
             Peer::Floor => "floor",
+            Peer::Cards => "judge with cards",
+            Peer::Pass => "pass C",
         }
     }
 }
@@ -49,6 +62,7 @@ pub struct Peers {
     workspace: Vec<u16>,
     first: Vec<u16>,
     second: Vec<u16>,
+    cards: Vec<Record>,
 }
 
 impl Peers {
@@ -59,6 +73,7 @@ impl Peers {
             workspace: vec![0; WORKSPACE + MAX_EVENTS],
             first: vec![0; MAX_EVENTS],
             second: vec![0; MAX_EVENTS],
+            cards: vec![Record::UNTOUCHED; LOCATIONS],
         }
     }
 
@@ -74,6 +89,9 @@ impl Peers {
                 Peer::FastTrack => _ = black_box(unsafe { self.fasttrack.first_race(trace) }),
                 Peer::Ancestors => _ = black_box(self.ancestors.answer(trace)),
                 Peer::Floor => _ = black_box(ffi::floor(trace, &mut self.workspace)),
+                Peer::Cards => _ = black_box(self.call_with_cards(trace)),
+                // Safe, as for FastTrack.
+                Peer::Pass => unsafe { ffi::pass(trace, black_box(&mut self.cards)) },
             }
         }
         start.elapsed().as_secs_f64() / batch as f64
@@ -85,6 +103,11 @@ impl Peers {
             Call::Judge => judge.judge(trace, workspace, first, second),
             Call::Ordering(p, q) => judge.ordering(trace, workspace, p, q),
         }
+    }
+
+    fn call_with_cards(&mut self, trace: &Trace) -> Told {
+        let Peers { workspace, first, second, cards, .. } = self;
+        ffi::judge_cards(trace, workspace, first, second, cards)
     }
 
     /// Before anything is measured the linked judges must say what is wanted and leave the same
@@ -121,6 +144,26 @@ impl Peers {
         }
         if matrix && self.ancestors.answer(trace) != expected {
             mismatch(&format!("the all-ancestors judge did not say {expected:?}\non {trace}"));
+        }
+    }
+
+    /// The judge with cards must find the trace clean. Its cards and those of the pass must be the
+    /// slow ones.
+    pub fn agree_on_cards(&mut self, trace: &Trace) {
+        let dirt = Record { reads: 7, writes: 7, first: 7, last: 7 };
+        let wanted: Vec<Record> = cards(trace).into_iter().map(Record::from).collect();
+        self.cards.fill(dirt);
+        let told = self.call_with_cards(trace);
+        if told != Told::from(Answer::Clean) || self.cards != wanted {
+            mismatch(&format!(
+                "the judge with cards said {told:?} or made other cards\non {trace}"
+            ));
+        }
+        self.cards.fill(dirt);
+        // Safe, as for FastTrack.
+        unsafe { ffi::pass(trace, &mut self.cards) };
+        if self.cards != wanted {
+            mismatch(&format!("the pass made other cards\non {trace}"));
         }
     }
 

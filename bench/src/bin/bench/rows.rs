@@ -1,9 +1,9 @@
 //! The rows of the tables: traces of one kind, and the best time of each peer on each.
 
-use crate::peers::{Call, Peer, Peers, PEERS};
+use crate::peers::{Call, Peer, Peers, CARDS, JUDGING, ORDERING};
 use racejudge_bench::rng::Rng;
 use racejudge_bench::trace::*;
-use racejudge_bench::workloads::{self, Make, WORKLOADS};
+use racejudge_bench::workloads::{self, Make, Workload, WORKLOADS};
 
 /// The sizes at which growth is measured.
 pub const SIZES: [usize; 5] = [1_024, 4_096, 8_192, 16_384, MAX_EVENTS];
@@ -20,14 +20,21 @@ pub struct Row {
     /// What else tells the row from others.
     detail: String,
     pub events: usize,
+    pub peers: &'static [Peer],
     call: Call,
     traces: Vec<Trace>,
     batch: usize,
-    best: Vec<[f64; PEERS.len()]>,
+    best: Vec<[f64; Peer::COUNT]>,
 }
 
 impl Row {
-    fn new(name: &'static str, call: Call, traces: Vec<Trace>, expected: Answer) -> Self {
+    fn new(
+        name: &'static str,
+        peers: &'static [Peer],
+        call: Call,
+        traces: Vec<Trace>,
+        expected: Answer,
+    ) -> Self {
         let events = traces[0].len();
         let looked_at = match expected {
             Answer::Race(_, t) => t + 1,
@@ -37,19 +44,16 @@ impl Row {
             name,
             detail: String::new(),
             events,
+            peers,
             call,
             batch: if looked_at < SHORT { BATCH } else { 1 },
-            best: vec![[f64::INFINITY; PEERS.len()]; traces.len()],
+            best: vec![[f64::INFINITY; Peer::COUNT]; traces.len()],
             traces,
         }
     }
 
     pub fn label(&self) -> String {
         format!("{}{}", self.name, self.detail)
-    }
-
-    pub fn judged(&self) -> bool {
-        self.call == Call::Judge
     }
 
     pub fn traces(&self) -> usize {
@@ -72,11 +76,6 @@ impl Row {
 
     pub fn nanos_an_event(&self, peer: Peer) -> f64 {
         self.micros(peer) * 1e3 / self.events as f64
-    }
-
-    /// The judge's time over that of a peer.
-    pub fn ratio(&self, peer: Peer) -> f64 {
-        self.micros(Peer::Judge) / self.micros(peer)
     }
 }
 
@@ -101,7 +100,7 @@ pub fn workloads(peers: &mut Peers, count: usize, rng: &mut Rng) -> Vec<Row> {
         for (i, trace) in traces.iter().enumerate() {
             peers.agree(trace, expected, i == 0);
         }
-        rows.push(Row::new(workload.name, Call::Judge, traces, expected));
+        rows.push(Row::new(workload.name, &JUDGING, Call::Judge, traces, expected));
     }
     rows
 }
@@ -117,7 +116,7 @@ pub fn growth(peers: &mut Peers, count: usize, rng: &mut Rng) -> Vec<Row> {
             for trace in &traces {
                 peers.agree(trace, Answer::Clean, n <= MATRIX_EVENTS);
             }
-            let row = Row::new(name, Call::Judge, traces, Answer::Clean);
+            let row = Row::new(name, &JUDGING, Call::Judge, traces, Answer::Clean);
             rows.push(Row { detail: format!(", {n} events"), ..row });
         }
     }
@@ -141,9 +140,28 @@ pub fn ordering(peers: &mut Peers, count: usize, rng: &mut Rng) -> Vec<Row> {
             for trace in &traces {
                 peers.agree_on_order(trace, p, q);
             }
-            let row = Row::new(name, Call::Ordering(p, q), traces.clone(), Answer::Clean);
+            let call = Call::Ordering(p, q);
+            let row = Row::new(name, &ORDERING, call, traces.clone(), Answer::Clean);
             rows.push(Row { detail: format!(", q {place}"), ..row });
         }
+    }
+    rows
+}
+
+/// The clean workloads at full size, for cards.
+pub fn cards(peers: &mut Peers, count: usize, rng: &mut Rng) -> Vec<Row> {
+    let clean = |workload: &&Workload| (workload.expected)(MAX_EVENTS) == Answer::Clean;
+    let mut rows = Vec::new();
+    for workload in WORKLOADS.iter().filter(clean) {
+        let traces = traces(workload.make, MAX_EVENTS, count, rng);
+        if traces[0].is_empty() {
+            continue;
+        }
+        for trace in &traces {
+            peers.agree(trace, Answer::Clean, false);
+            peers.agree_on_cards(trace);
+        }
+        rows.push(Row::new(workload.name, &CARDS, Call::Judge, traces, Answer::Clean));
     }
     rows
 }

@@ -1,17 +1,45 @@
 //! The tables, in Markdown with columns that line up, and the summary.
 
-use crate::peers::{Peer, PEERS};
+use crate::peers::{Peer, CARDS, JUDGING, ORDERING};
 use crate::rows::{Row, SIZES};
 use racejudge_bench::trace::MAX_EVENTS;
 
-/// The peers that the judge's time is divided by.
-const MEASURES: [Peer; 3] = [Peer::TwoOrders, Peer::UnionFind, Peer::FastTrack];
+/// The time of one peer over that of others, one after the other.
+#[derive(Clone, Copy)]
+struct Ratio {
+    of: Peer,
+    over: &'static [Peer],
+}
+
+const TWO_ORDERS: Ratio = Ratio { of: Peer::Judge, over: &[Peer::TwoOrders] };
+const UNION_FIND: Ratio = Ratio { of: Peer::Judge, over: &[Peer::UnionFind] };
+const FASTTRACK: Ratio = Ratio { of: Peer::Judge, over: &[Peer::FastTrack] };
+const PASS: Ratio = Ratio { of: Peer::Cards, over: &[Peer::Judge, Peer::Pass] };
+
+/// What the judge without cards is measured by.
+const MEASURES: [Ratio; 3] = [TWO_ORDERS, UNION_FIND, FASTTRACK];
+
+impl Ratio {
+    fn in_row(self, row: &Row) -> f64 {
+        row.micros(self.of) / self.over.iter().map(|&peer| row.micros(peer)).sum::<f64>()
+    }
+
+    /// The ratio's name where what is measured has this name.
+    fn name(self, of: &str) -> String {
+        let over: Vec<&str> = self.over.iter().map(|peer| peer.name()).collect();
+        match over[..] {
+            [one] => format!("{of} / {one}"),
+            _ => format!("{of} / ({})", over.join(" + ")),
+        }
+    }
+}
 
 /// Targets, each at most this: the time over that of the two orders in C, for both calls; over
-/// FastTrack's; an event's in the longest trace over one's in the shortest, which would be 32 if
-/// growth were quadratic.
+/// FastTrack's; that with cards over the judge's and the pass's; an event's in the longest trace
+/// over one's in the shortest, which would be 32 if growth were quadratic.
 const OVER_TWO_ORDERS: f64 = 1.3;
 const OVER_FASTTRACK: f64 = 1.0;
+const OVER_PASS: f64 = 1.3;
 const GROWTH: f64 = 2.0;
 
 /// The same over union-find's, on a workload of full length. None where the other algorithms stop
@@ -32,21 +60,21 @@ fn over_union_find(workload: &str) -> Option<f64> {
     }
 }
 
-/// A row of the table for each row, a column for each peer, then the ratios to some of them.
+/// A row of the table for each row, a column for each peer, then one for each ratio.
 fn table(
     title: &str,
     rows: &[Row],
     time: fn(&Row, Peer) -> f64,
     peers: &[Peer],
-    ratios: &[Peer],
+    ratios: &[Ratio],
 ) -> String {
     let mut lines = vec![vec!["workload".to_string()]];
     lines[0].extend(peers.iter().map(|peer| peer.name().to_string()));
-    lines[0].extend(ratios.iter().map(|peer| format!("judge / {}", peer.name())));
+    lines[0].extend(ratios.iter().map(|ratio| ratio.name(ratio.of.name())));
     for row in rows {
         let mut line = vec![row.label()];
         line.extend(peers.iter().map(|&peer| two_places(time(row, peer))));
-        line.extend(ratios.iter().map(|&peer| two_places(row.ratio(peer))));
+        line.extend(ratios.iter().map(|ratio| two_places(ratio.in_row(row))));
         lines.push(line);
     }
     format!("\n{title}\n\n{}", markdown(&lines))
@@ -77,50 +105,56 @@ fn two_places(number: f64) -> String {
 
 pub fn workloads(rows: &[Row]) -> String {
     let title = "The judge on 32,768 events, microseconds a call:";
-    table(title, rows, Row::micros, &PEERS, &MEASURES)
+    table(title, rows, Row::micros, &JUDGING, &MEASURES)
 }
 
 pub fn growth(rows: &[Row]) -> String {
     let title = "Growth of the judge, nanoseconds an event:";
-    table(title, rows, Row::nanos_an_event, &PEERS, &MEASURES)
+    table(title, rows, Row::nanos_an_event, &JUDGING, &MEASURES)
 }
 
 pub fn ordering(rows: &[Row]) -> String {
     let title = "The ordering call on 32,768 events, microseconds a call:";
-    let peers = [Peer::Judge, Peer::TwoOrders, Peer::UnionFind, Peer::Floor];
-    table(title, rows, Row::micros, &peers, &MEASURES[..2])
+    table(title, rows, Row::micros, &ORDERING, &MEASURES[..2])
+}
+
+pub fn cards(rows: &[Row]) -> String {
+    let title = "The judge with cards on 32,768 events, microseconds a call:";
+    table(title, rows, Row::micros, &CARDS, &[PASS])
 }
 
 /// A line for each target that tells whether it is met.
-pub fn summary(workloads: &[Row], growth: &[Row], ordering: &[Row]) -> String {
+pub fn summary(workloads: &[Row], growth: &[Row], ordering: &[Row], cards: &[Row]) -> String {
     let judged = workloads.iter().chain(growth).map(|row| (row, OVER_TWO_ORDERS));
     let ordered = ordering.iter().map(|row| (row, OVER_TWO_ORDERS));
     let full = workloads.iter().filter(|row| row.events == MAX_EVENTS);
     let unlike = full.filter_map(|row| Some((row, over_union_find(row.name)?)));
     let fasttrack = unlike.clone().map(|(row, _)| (row, OVER_FASTTRACK));
+    let carded = cards.iter().map(|row| (row, OVER_PASS));
     let lines = [
-        ratios("judge", Peer::TwoOrders, judged),
-        ratios("ordering call", Peer::TwoOrders, ordered),
-        ratios("judge", Peer::UnionFind, unlike),
-        ratios("judge", Peer::FastTrack, fasttrack),
+        ratios("judge", TWO_ORDERS, judged),
+        ratios("ordering call", TWO_ORDERS, ordered),
+        ratios("judge", UNION_FIND, unlike),
+        ratios("judge", FASTTRACK, fasttrack),
+        ratios("judge with cards", PASS, carded),
         steepest(growth),
     ];
     format!("\nTargets:\n\n{}", lines.map(|line| format!("- {line}\n")).concat())
 }
 
-/// Whether the ratio to a peer is at most the target in all rows: the row that comes nearest, or
-/// those that miss it.
-fn ratios<'a>(call: &str, peer: Peer, rows: impl Iterator<Item = (&'a Row, f64)>) -> String {
+/// Whether a ratio is at most the target in all rows: the row that comes nearest, or those that miss
+/// it.
+fn ratios<'a>(call: &str, ratio: Ratio, rows: impl Iterator<Item = (&'a Row, f64)>) -> String {
     let mut rows: Vec<(&Row, f64)> = rows.collect();
-    let part = |&(row, target): &(&Row, f64)| row.ratio(peer) / target;
+    let part = |&(row, target): &(&Row, f64)| ratio.in_row(row) / target;
     rows.sort_by(|a, b| part(b).total_cmp(&part(a)));
     let met = |row: &&(&Row, f64)| part(row) <= 1.0;
     let missed = rows.len() - rows.iter().filter(met).count();
     let shown = rows[..missed.max(1)]
         .iter()
-        .map(|(row, target)| format!("{:.3} of {target} ({})", row.ratio(peer), row.label()));
+        .map(|(row, target)| format!("{:.3} of {target} ({})", ratio.in_row(row), row.label()));
     let shown: Vec<String> = shown.collect();
-    format!("{call} / {}: {}, {}", peer.name(), verdict(missed == 0), shown.join(", "))
+    format!("{}: {}, {}", ratio.name(call), verdict(missed == 0), shown.join(", "))
 }
 
 /// What an event takes in the shortest and in the longest trace.

@@ -1,11 +1,40 @@
 //! Cells that are lent to a call, and what they hold before it.
 
+use racejudge_bench::ffi::Record;
 use racejudge_bench::rng::Rng;
 use racejudge_bench::trace::{MAX_EVENTS, TASKS, WORKSPACE};
-use std::fmt::Display;
+use std::fmt::Debug;
 
 /// Cells on either side of each lent slice that must stay as they are.
 const GUARD: usize = 16;
+
+/// What lent slices are made of, each cell of so many numbers of the dirt.
+pub trait Cell: Copy + Debug + PartialEq {
+    const NUMBERS: usize;
+    fn of(numbers: &[u16]) -> Self;
+}
+
+impl Cell for u16 {
+    const NUMBERS: usize = 1;
+    fn of(numbers: &[u16]) -> Self {
+        numbers[0]
+    }
+}
+
+/// The low byte.
+impl Cell for u8 {
+    const NUMBERS: usize = 1;
+    fn of(numbers: &[u16]) -> Self {
+        numbers[0] as u8
+    }
+}
+
+impl Cell for Record {
+    const NUMBERS: usize = 4;
+    fn of(numbers: &[u16]) -> Self {
+        Record { reads: numbers[0], writes: numbers[1], first: numbers[2], last: numbers[3] }
+    }
+}
 
 /// Cells with any content, of which those between the guards are lent.
 pub struct Buffer<T> {
@@ -13,23 +42,16 @@ pub struct Buffer<T> {
     before: Vec<T>,
 }
 
-impl Buffer<u16> {
+impl<T: Cell> Buffer<T> {
     /// So many cells to lend, with a part of the dirt.
     pub fn drawn(dirt: &[u16], rng: &mut Rng, lent: usize) -> Self {
-        let whole = lent + 2 * GUARD;
+        let whole = (lent + 2 * GUARD) * T::NUMBERS;
         let from = rng.below(dirt.len() - whole + 1);
-        let before = dirt[from..from + whole].to_vec();
+        let numbers = dirt[from..from + whole].chunks_exact(T::NUMBERS);
+        let before: Vec<T> = numbers.map(T::of).collect();
         Buffer { cells: before.clone(), before }
     }
 
-    /// The low byte of each cell.
-    pub fn bytes(self) -> Buffer<u8> {
-        let low = |cells: Vec<u16>| cells.into_iter().map(|cell| cell as u8).collect();
-        Buffer { cells: low(self.cells), before: low(self.before) }
-    }
-}
-
-impl<T: Copy + PartialEq + Display> Buffer<T> {
     pub fn lend(&mut self) -> &mut [T] {
         let end = self.cells.len() - GUARD;
         &mut self.cells[GUARD..end]
@@ -49,7 +71,7 @@ impl<T: Copy + PartialEq + Display> Buffer<T> {
         let wanted = [&before[..from], start, &before[to..]].concat();
         let at = (0..wanted.len()).find(|&at| cells[at] != wanted[at])?;
         let place = at as isize - GUARD as isize;
-        Some(format!("cell {place} is {}, wanted {}", cells[at], wanted[at]))
+        Some(format!("cell {place} is {:?}, wanted {:?}", cells[at], wanted[at]))
     }
 }
 

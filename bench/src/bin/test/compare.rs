@@ -1,12 +1,12 @@
-//! One call of each linked judge held against the slow judge: the answer, the workspace and both
-//! order buffers whole, the cells around them, the trace. Counts what was met.
+//! One call of each linked judge held against the slow judge: the answer, the workspace, both order
+//! buffers and the cards whole, the cells around them, the trace. Counts what was met.
 
-use crate::buffer::{dirt, Buffer};
+use crate::buffer::{dirt, Buffer, Cell};
 use crate::watch::watched;
 use racejudge_bench::ancestors::{Ancestors, Outcome};
 use racejudge_bench::extent::{Extent, LIMITS};
 use racejudge_bench::fasttrack::FastTrack;
-use racejudge_bench::ffi::{Judge, Told, PROVED, TWO_ORDERS, UNION_FIND};
+use racejudge_bench::ffi::{self, Judge, Record, Told, PROVED, TWO_ORDERS, UNION_FIND};
 use racejudge_bench::program::mismatch;
 use racejudge_bench::rng::Rng;
 use racejudge_bench::trace::*;
@@ -15,8 +15,19 @@ use std::sync::Arc;
 
 pub const JUDGES: [&Judge; 3] = [&PROVED, &TWO_ORDERS, &UNION_FIND];
 
-/// The last row that a call over a trace can give.
-const LAST_ROW: usize = 13;
+/// The rows that a call over a trace can give: 14 and 15 are the translation's.
+const ROWS: [usize; 14] = [1, 2, 3, 4, 5, 6, 7, 8, 9, 10, 11, 12, 13, LAST_ROW];
+const LAST_ROW: usize = 16;
+
+/// The lengths of what is lent to the judge: the workspace, the two order buffers and, where the
+/// call has them, the cards.
+pub type Lent = [usize; 4];
+
+/// The least that a trace needs.
+pub fn needed(trace: &Trace) -> Lent {
+    let n = trace.len();
+    [WORKSPACE + n, n, n, LOCATIONS]
+}
 
 /// How often each answer was met: the two that are no refusal (clean and race, no and yes), and the
 /// rows from 1 on.
@@ -27,17 +38,25 @@ struct Counts {
 }
 
 impl Counts {
+    fn count(&mut self, said: Answer) {
+        match said {
+            Answer::Clean => self.plain[0] += 1,
+            Answer::Race(..) => self.plain[1] += 1,
+            Answer::Refused(row, _) => self.rows[row] += 1,
+        }
+    }
+
     fn sum(&self) -> usize {
         self.plain.iter().chain(&self.rows).sum()
     }
 
-    /// What was never met, but for one row that the call never gives.
-    fn missing(&self, never: usize) -> Option<String> {
+    /// What was never met of a call, but for the rows that it never gives.
+    fn missing(&self, call: &str, never: &[usize]) -> Option<String> {
         if self.plain.contains(&0) {
-            return Some("an answer".to_string());
+            return Some(format!("an answer of {call}"));
         }
-        let mut rows = (1..=LAST_ROW).filter(|&row| row != never && self.rows[row] == 0);
-        rows.next().map(|row| format!("refused {row}"))
+        let mut rows = ROWS.into_iter().filter(|row| !never.contains(row) && self.rows[*row] == 0);
+        rows.next().map(|row| format!("refused {row} of {call}"))
     }
 }
 
@@ -47,6 +66,7 @@ pub struct Test {
     fasttrack: FastTrack,
     pub dirt: Vec<u16>,
     judged: Counts,
+    carded: Counts,
     ordered: Counts,
     /// The greatest of the traces that were found clean.
     extent: Extent,
@@ -62,45 +82,37 @@ impl Test {
             fasttrack: FastTrack::default(),
             dirt,
             judged: Counts::default(),
+            carded: Counts::default(),
             ordered: Counts::default(),
             extent: Extent::default(),
         }
     }
 
-    fn buffer(&mut self, lent: usize) -> Buffer<u16> {
+    fn buffer<T: Cell>(&mut self, lent: usize) -> Buffer<T> {
         Buffer::drawn(&self.dirt, &mut self.rng, lent)
     }
 
     /// The judge on a trace, with slices as long as needed or a little longer.
     pub fn judge(&mut self, trace: &Trace) -> Answer {
-        let n = trace.len();
-        let mut lent = |need: usize| need + self.rng.below(3);
-        let (workspace, first, second) = (lent(WORKSPACE + n), lent(n), lent(n));
-        self.judge_with(trace, workspace, first, second)
+        let lent = needed(trace).map(|need| need + self.rng.below(3));
+        self.judge_with(trace, lent)[0]
     }
 
-    /// What the library itself answers, which is counted.
-    pub fn judge_with(
-        &mut self,
-        trace: &Trace,
-        workspace: usize,
-        first: usize,
-        second: usize,
-    ) -> Answer {
-        let wanted = self.slow.judge(trace, workspace, first, second);
-        let lent = [workspace, first, second];
+    /// What the library itself answers without cards and with them, which is counted.
+    pub fn judge_with(&mut self, trace: &Trace, lent: Lent) -> [Answer; 2] {
+        let wanted = self.slow.judge(trace, lent[0], lent[1], lent[2]);
         let told = JUDGES.map(|judge| held(self.judged_by(judge, trace, lent, &wanted)));
-        let said = Answer::from(told[0]);
-        match said {
-            Answer::Clean => {
-                self.judged.plain[0] += 1;
-                self.extent = self.extent.max(Extent::of(trace));
-            }
-            Answer::Race(..) => self.judged.plain[1] += 1,
-            Answer::Refused(row, _) => self.judged.rows[row] += 1,
+        let judged = Answer::from(told[0]);
+        self.judged.count(judged);
+        if judged == Answer::Clean {
+            self.extent = self.extent.max(Extent::of(trace));
         }
-        self.same_race(trace, said);
-        said
+        self.same_race(trace, judged);
+        let wanted = wanted.with_cards(trace, lent[3]);
+        let carded = Answer::from(held(self.judged_with_cards(trace, lent, &wanted)));
+        self.carded.count(carded);
+        self.same_cards(trace, &wanted);
+        [judged, carded]
     }
 
     /// What one judge tells, or how that or what it leaves differs from what is wanted.
@@ -108,14 +120,43 @@ impl Test {
         &mut self,
         judge: &Judge,
         trace: &Trace,
-        [workspace, first, second]: [usize; 3],
+        [workspace, first, second, _]: Lent,
         wanted: &Outcome<Answer>,
     ) -> Result<Told, String> {
-        let (call, copy) = (format!("{}, judge", judge.name), Arc::new(trace.clone()));
+        let (name, lent) = (format!("{}, judge", judge.name), [workspace, first, second, 0]);
+        self.judged_as(&name, trace, lent, wanted, |trace, [workspace, first, second], _| {
+            judge.judge(trace, workspace, first, second)
+        })
+    }
+
+    /// The same for the library with cards.
+    pub fn judged_with_cards(
+        &mut self,
+        trace: &Trace,
+        lent: Lent,
+        wanted: &Outcome<Answer>,
+    ) -> Result<Told, String> {
+        let name = format!("{}, judge with cards", PROVED.name);
+        self.judged_as(&name, trace, lent, wanted, |trace, [workspace, first, second], cards| {
+            ffi::judge_cards(trace, workspace, first, second, cards)
+        })
+    }
+
+    /// The same for any way to call a judge, which is handed the buffers.
+    fn judged_as(
+        &mut self,
+        name: &str,
+        trace: &Trace,
+        [workspace, first, second, cards]: Lent,
+        wanted: &Outcome<Answer>,
+        call: impl FnOnce(&Trace, [&mut [u16]; 3], &mut [Record]) -> Told,
+    ) -> Result<Told, String> {
+        let copy = Arc::new(trace.clone());
         let mut w = self.buffer(workspace);
         let (mut f, mut s) = (self.buffer(first), self.buffer(second));
+        let mut c = self.buffer(cards);
         let told =
-            watched(&call, copy.clone(), || judge.judge(&copy, w.lend(), f.lend(), s.lend()));
+            watched(name, copy.clone(), || call(&copy, [w.lend(), f.lend(), s.lend()], c.lend()));
         let (first_order, second_order) = wanted.orders.clone().unwrap_or_default();
         let differences = [
             ("answer", answer_difference(told, wanted.said)),
@@ -123,8 +164,9 @@ impl Test {
             ("workspace", w.difference(&vec![0; wanted.cleared])),
             ("first order buffer", f.difference(&first_order)),
             ("second order buffer", s.difference(&second_order)),
+            ("cards", c.difference(&records(wanted))),
         ];
-        first_difference(&call, trace, wanted, differences).map_or(Ok(told), Err)
+        first_difference(name, trace, wanted, differences).map_or(Ok(told), Err)
     }
 
     /// FastTrack knows no rules; where they are kept it must see the same race.
@@ -140,6 +182,19 @@ impl Test {
         let said = unsafe { self.fasttrack.first_race(&kept) };
         if said != wanted {
             mismatch(&format!("FastTrack said {said:?}, wanted {wanted:?}\non {kept}"));
+        }
+    }
+
+    /// The pass by hand knows no rules either; of a clean trace it must make the same cards.
+    fn same_cards(&mut self, trace: &Trace, wanted: &Outcome<Answer>) {
+        if wanted.cards.is_none() {
+            return;
+        }
+        let mut made = self.buffer(LOCATIONS);
+        // Safe: the slow judge found that the rules are kept.
+        unsafe { ffi::pass(trace, made.lend()) };
+        if let Some(difference) = made.difference(&records(wanted)) {
+            mismatch(&format!("the pass in C: cards {difference}\non {trace}"));
         }
     }
 
@@ -193,12 +248,11 @@ impl Test {
     pub fn both(&mut self, trace: &Trace, pairs: usize) -> Answer {
         let said = self.judge(trace);
         if self.rng.chance(1, 16) {
-            let n = trace.len();
             let mut lent =
                 |need: usize| if self.rng.chance(1, 2) { need } else { self.rng.below(need + 1) };
-            let (workspace, first, second) = (lent(WORKSPACE + n), lent(n), lent(n));
-            self.judge_with(trace, workspace, first, second);
-            self.ordering_with(trace, workspace, 0, 0);
+            let lent = needed(trace).map(&mut lent);
+            self.judge_with(trace, lent);
+            self.ordering_with(trace, lent[0], 0, 0);
         }
         for _ in 0..pairs {
             let (p, q) = self.pair(trace.len());
@@ -221,37 +275,46 @@ impl Test {
 
     /// How often each answer was met.
     pub fn table(&self) -> String {
-        let line = |name: &str, judged: usize, ordered: usize| {
-            format!("{name:>14} {judged:>9} {ordered:>9}\n")
+        let calls = [&self.judged, &self.carded, &self.ordered];
+        let line = |name: &str, count: &dyn Fn(&Counts) -> usize| {
+            let counts = calls.map(|counts| format!(" {:>9}", count(counts)));
+            format!("{name:>14}{}\n", counts.concat())
         };
-        let (judged, ordered) = (&self.judged, &self.ordered);
-        let mut table = format!("{:>14} {:>9} {:>9}\n", "answer", "judge", "ordering");
-        table += &line("clean / no", judged.plain[0], ordered.plain[0]);
-        table += &line("race / yes", judged.plain[1], ordered.plain[1]);
-        for row in 1..=LAST_ROW {
-            table += &line(&format!("refused {row}"), judged.rows[row], ordered.rows[row]);
+        let mut table =
+            format!("{:>14} {:>9} {:>9} {:>9}\n", "answer", "judge", "cards", "ordering");
+        table += &line("clean / no", &|counts| counts.plain[0]);
+        table += &line("race / yes", &|counts| counts.plain[1]);
+        for row in ROWS {
+            table += &line(&format!("refused {row}"), &|counts| counts.rows[row]);
         }
-        table + &line("calls", judged.sum(), ordered.sum())
+        table + &line("calls", &Counts::sum)
     }
 
     /// What a call can give but never gave, or the limits if they were not met.
     pub fn missing(&self) -> Option<String> {
-        // Row 4 belongs to the judge alone, row 13 to the ordering call.
-        let judged = self.judged.missing(13).map(|what| format!("{what} of the judge"));
-        let ordered = self.ordered.missing(4).map(|what| format!("{what} of the ordering call"));
+        // Row 4 belongs to the judge alone, row 13 to the ordering call, row 16 to cards.
+        let judged = self.judged.missing("the judge", &[13, 16]);
+        let carded = self.carded.missing("the judge with cards", &[13]);
+        let ordered = self.ordered.missing("the ordering call", &[4, 16]);
         let limits = (self.extent != LIMITS).then(|| format!("{LIMITS:?}, but {:?}", self.extent));
-        judged.or(ordered).or(limits)
+        judged.or(carded).or(ordered).or(limits)
     }
 
     pub fn closing_line(&self, translated: usize) -> String {
-        let (judged, ordered) = (self.judged.sum(), self.ordered.sum());
+        let [judged, carded, ordered] =
+            [&self.judged, &self.carded, &self.ordered].map(Counts::sum);
         let Extent { events, tasks, links } = self.extent;
         format!(
-            "{judged} calls of the judge, {ordered} of the ordering call and {translated} of the \
-             translation, up to {events} events, {tasks} tasks and chains of {links} links: no \
-             mismatch\n"
+            "{judged} calls of the judge, {carded} of the judge with cards, {ordered} of the \
+             ordering call and {translated} of the translation, up to {events} events, {tasks} \
+             tasks and chains of {links} links: no mismatch\n"
         )
     }
+}
+
+/// The cards that are wanted, as they must stand in the lent slice.
+fn records(wanted: &Outcome<Answer>) -> Vec<Record> {
+    wanted.cards.iter().flatten().map(|&card| Record::from(card)).collect()
 }
 
 pub fn answer_difference(told: Told, wanted: impl Into<Told>) -> Option<String> {

@@ -2,6 +2,7 @@
 
 use crate::compare::{known, Test};
 use racejudge_bench::ancestors::Ancestors;
+use racejudge_bench::cards::cards;
 use racejudge_bench::text;
 use racejudge_bench::trace::Answer::{Clean, Race, Refused};
 use racejudge_bench::trace::*;
@@ -13,17 +14,14 @@ const RUNS: [(&str, Answer); 21] = [
     ("0 write 1024", Refused(8, 0)),
     ("0 fork 1023", Clean),
     ("0 fork 1024", Refused(9, 0)),
-    ("0 fork 1, 1 read 5, 1 halt, 0 read 5", Clean),
+    (TWO_READERS, Clean),
     ("0 fork 1, 1 read 5, 1 halt, 0 write 5", Race(1, 3)),
     ("0 fork 1, 1 write 5, 1 halt, 0 read 5", Race(1, 3)),
     (WRITES_TWICE, Race(1, 4)),
     ("0 fork 1, 1 halt, 0 fork 2, 2 halt, 0 join 1", Refused(11, 4)),
     ("0 fork 1, 1 halt, 0 fork 2, 2 halt, 0 join 2, 0 join 1", Clean),
     (JOINS_A_SIBLING, Race(1, 7)),
-    (
-        "0 fork 1, 1 read 7, 1 halt, 0 read 7, 0 fork 2, 2 join 1, 2 halt, 0 join 2, 0 write 7",
-        Clean,
-    ),
+    (JOINED_BY_WAY_OF_A_SIBLING, Clean),
     ("0 halt, 0 5 0", Refused(5, 1)),
     // Judges that deceive.
     ("0 fork 1, 1 read 5, 1 halt, 0 fork 2, 2 read 5, 2 halt, 0 join 2, 0 write 5", Race(1, 7)),
@@ -36,13 +34,23 @@ const RUNS: [(&str, Answer); 21] = [
     ("0 halt 3", Refused(12, 0)),
 ];
 
+pub const TWO_READERS: &str = "0 fork 1, 1 read 5, 1 halt, 0 read 5";
 pub const WRITES_TWICE: &str = "0 fork 1, 1 write 5, 1 write 5, 1 halt, 0 read 5";
 const JOINS_A_SIBLING: &str =
     "0 fork 1, 1 read 7, 1 halt, 0 read 7, 0 fork 2, 2 join 1, 2 halt, 0 write 7";
+const JOINED_BY_WAY_OF_A_SIBLING: &str =
+    "0 fork 1, 1 read 7, 1 halt, 0 read 7, 0 fork 2, 2 join 1, 2 halt, 0 join 2, 0 write 7";
 
 const ORDERS: [(&str, [&[u16]; 2]); 2] = [
     (WRITES_TWICE, [&[0, 1, 4, 2, 3], &[0, 4, 1, 2, 3]]),
     (JOINS_A_SIBLING, [&[0, 3, 4, 1, 7, 2, 5, 6], &[0, 3, 4, 7, 1, 2, 5, 6]]),
+];
+
+/// The card of the one location that each touches.
+const CARDS: [(&str, usize, Card); 3] = [
+    ("0 write 1023", 1_023, Card { reads: 0, writes: 1, first: 0, last: 0 }),
+    (TWO_READERS, 5, Card { reads: 2, writes: 0, first: 1, last: 3 }),
+    (JOINED_BY_WAY_OF_A_SIBLING, 7, Card { reads: 2, writes: 1, first: 1, last: 8 }),
 ];
 
 pub fn trace(run: &str) -> Trace {
@@ -71,6 +79,11 @@ pub fn runs(test: &mut Test) {
         let (trace, n) = (trace(run), run.split(", ").count());
         let orders = Ancestors::default().judge(&trace, WORKSPACE + n, n, n).orders;
         known(orders, Some((first.to_vec(), second.to_vec())), run);
+    }
+    for (run, location, card) in CARDS {
+        let mut all = vec![UNTOUCHED; LOCATIONS];
+        all[location] = card;
+        known(cards(&trace(run)), all, run);
     }
     known(test.ordering(&Trace::default(), 0, 0), Ordering::Refused(13, 0), "no events");
 }

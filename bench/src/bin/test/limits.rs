@@ -1,8 +1,9 @@
 //! The limits: 32,768 events, 1,024 tasks, chains of 10 links, lent slices of every length; and, for
 //! judges that look at many events at a time, each place in a trace.
 
-use crate::compare::{known, Test};
+use crate::compare::{known, needed, Test};
 use racejudge_bench::builder::Builder;
+use racejudge_bench::cards::cards;
 use racejudge_bench::extent::{Extent, LIMITS};
 use racejudge_bench::rng::Rng;
 use racejudge_bench::trace::*;
@@ -13,7 +14,9 @@ pub fn all(test: &mut Test) {
     tasks(test);
     chains(test);
     buffer_lengths(test);
+    card_lengths(test);
     slice_lengths(test);
+    full_cards(test);
     places(test);
 }
 
@@ -29,7 +32,7 @@ fn events(test: &mut Test) {
     known(test.judge(&over), Answer::Refused(2, 0), &over);
     known(test.ordering(&over, 0, 0), Ordering::Refused(2, 0), &over);
     // The first condition that holds decides.
-    known(test.judge_with(&over, 0, 0, 0), Answer::Refused(2, 0), &over);
+    known(test.judge_with(&over, [0; 4]), [Answer::Refused(2, 0); 2], &over);
     known(test.ordering_with(&over, 0, 0, 0), Ordering::Refused(2, 0), &over);
 }
 
@@ -117,7 +120,7 @@ fn chains(test: &mut Test) {
     known(test.ordering(&trace, 10, t), Ordering::No, &trace);
 }
 
-/// Rows 3 and 4, each alone and both at once.
+/// Rows 3, 4 and 16, each alone and all at once.
 fn buffer_lengths(test: &mut Test) {
     for n in [0, 1, 2, 100] {
         let (trace, need) = (reads(n), WORKSPACE + n);
@@ -125,7 +128,9 @@ fn buffer_lengths(test: &mut Test) {
         for workspace in [0, 1, 1_024, WORKSPACE - 1, WORKSPACE, need - 1, need, need + 999] {
             for first in [0, short, n, n + 1, 2 * n + 50] {
                 for second in [0, short, n, n + 1] {
-                    test.judge_with(&trace, workspace, first, second);
+                    for cards in [0, LOCATIONS - 1, LOCATIONS, LOCATIONS + 1] {
+                        test.judge_with(&trace, [workspace, first, second, cards]);
+                    }
                 }
             }
             test.ordering_with(&trace, workspace, 0, short);
@@ -133,9 +138,49 @@ fn buffer_lengths(test: &mut Test) {
         }
     }
     let one = reads(1);
-    known(test.judge_with(&one, WORKSPACE, 1, 1), Answer::Refused(3, 0), &one);
-    known(test.judge_with(&one, WORKSPACE + 1, 0, 1), Answer::Refused(4, 0), &one);
-    known(test.judge_with(&one, WORKSPACE + 1, 1, 0), Answer::Refused(4, 0), &one);
+    for cards in [0, LOCATIONS - 1, LOCATIONS] {
+        let mut refused = |workspace: usize, first: usize, second: usize, row: usize| {
+            let said = test.judge_with(&one, [workspace, first, second, cards]);
+            known(said, [Answer::Refused(row, 0); 2], &one);
+        };
+        refused(WORKSPACE, 1, 1, 3);
+        refused(WORKSPACE + 1, 0, 1, 4);
+        refused(WORKSPACE + 1, 1, 0, 4);
+    }
+}
+
+/// Row 16, which comes before the events are looked at.
+fn card_lengths(test: &mut Test) {
+    let race = [(0, FORK, 1), (1, WRITE, 7), (1, HALT, 0), (0, READ, 7)];
+    for (events, said) in [
+        (&[][..], Answer::Clean),
+        (&race[..3], Answer::Clean),
+        (&race[..], Answer::Race(1, 3)),
+        (&[(0, 5, 0)], Answer::Refused(5, 0)),
+        (&[(1, READ, 0)], Answer::Refused(7, 0)),
+        (&[(0, READ, 1_024)], Answer::Refused(8, 0)),
+    ] {
+        let trace = Trace::of(events);
+        let [workspace, first, second, need] = needed(&trace);
+        for cards in [0, 1, need / 2].into_iter().chain(need - 9..need + 9).chain([2 * need]) {
+            let carded = if cards < need { Answer::Refused(16, 0) } else { said };
+            let told = test.judge_with(&trace, [workspace, first, second, cards]);
+            known(told, [said, carded], &trace);
+        }
+    }
+}
+
+/// The first and the last location, touched by as many events as there may be.
+fn full_cards(test: &mut Test) {
+    const MOST: u16 = MAX_EVENTS as u16;
+    for location in [0, LOCATIONS as u16 - 1] {
+        for (kind, reads, writes) in [(READ, MOST, 0), (WRITE, 0, MOST)] {
+            let trace = Trace::of(&vec![(0, kind, location); MAX_EVENTS]);
+            let card = Card { reads, writes, first: 0, last: MOST - 1 };
+            known(cards(&trace)[location as usize], card, &trace);
+            known(test.judge(&trace), Answer::Clean, &trace);
+        }
+    }
 }
 
 /// Row 1, which comes before all others.
@@ -157,10 +202,9 @@ fn slice_lengths(test: &mut Test) {
         trace.kinds.truncate(kinds);
         trace.tasks.truncate(tasks);
         trace.operands.truncate(operands);
-        for (workspace, orders) in [(0, 0), (WORKSPACE + OVER, OVER)] {
-            let said = test.judge_with(&trace, workspace, orders, orders);
-            known(said, Answer::Refused(1, 0), &trace);
-            known(test.ordering_with(&trace, workspace, 0, 0), Ordering::Refused(1, 0), &trace);
+        for lent in [[0; 4], [WORKSPACE + OVER, OVER, OVER, LOCATIONS]] {
+            known(test.judge_with(&trace, lent), [Answer::Refused(1, 0); 2], &trace);
+            known(test.ordering_with(&trace, lent[0], 0, 0), Ordering::Refused(1, 0), &trace);
         }
     }
 }

@@ -1,7 +1,7 @@
 //! Wrong expectations: a comparison that did not notice them would notice no wrong judge either.
 
-use crate::compare::{Test, JUDGES};
-use crate::document::{trace, WRITES_TWICE};
+use crate::compare::{needed, Lent, Test, JUDGES};
+use crate::document::{trace, TWO_READERS, WRITES_TWICE};
 use crate::texts::{wanted, Text, Texts, Wanted, ENOUGH};
 use racejudge_bench::ancestors::Outcome;
 use racejudge_bench::ffi::Told;
@@ -20,6 +20,52 @@ const JUDGED: [Change<Answer>; 5] = [
     |wanted| wanted.orders.as_mut().expect("a race").0[0] += 1,
     |wanted| wanted.orders.as_mut().expect("a race").1[4] += 1,
 ];
+
+/// A run, how many cards are lent, and what is made wrong of what is wanted: the answer, the cleared
+/// cells, each field of a card, the two that say that no event touches the location, the last card,
+/// the record behind it, cards where there are none.
+const CARDED: [(&str, usize, &[Change<Answer>]); 3] = [
+    (
+        TWO_READERS,
+        LOCATIONS + 1,
+        &[
+            |wanted| wanted.said = Answer::Race(1, 3),
+            |wanted| wanted.cleared += 1,
+            |wanted| cards(wanted)[5].reads -= 1,
+            |wanted| cards(wanted)[5].writes += 1,
+            |wanted| cards(wanted)[5].first -= 1,
+            |wanted| cards(wanted)[5].last -= 1,
+            |wanted| cards(wanted)[6].first = 0,
+            |wanted| cards(wanted)[6].last = 0,
+            |wanted| _ = cards(wanted).pop(),
+            |wanted| cards(wanted).push(UNTOUCHED),
+            |wanted| wanted.cards = None,
+        ],
+    ),
+    (
+        WRITES_TWICE,
+        LOCATIONS + 1,
+        &[
+            |wanted| wanted.said = Answer::Clean,
+            |wanted| wanted.orders = None,
+            |wanted| wanted.cards = Some(vec![UNTOUCHED]),
+        ],
+    ),
+    (
+        TWO_READERS,
+        LOCATIONS - 1,
+        &[
+            |wanted| wanted.said = Answer::Clean,
+            |wanted| wanted.said = Answer::Refused(4, 0),
+            |wanted| wanted.cleared += 1,
+            |wanted| wanted.cards = Some(vec![UNTOUCHED]),
+        ],
+    ),
+];
+
+fn cards(wanted: &mut Outcome<Answer>) -> &mut Vec<Card> {
+    wanted.cards.as_mut().expect("a clean verdict")
+}
 
 /// The answer is yes.
 const ORDERED: [Change<Ordering>; 3] = [
@@ -58,21 +104,40 @@ const TRANSLATED: [(&str, &[TextChange]); 2] = [
 /// How many wrong expectations were noticed. One that is not ends the test.
 pub fn all() -> usize {
     let mut test = Test::new(1);
-    // A cell that is not cleared is not 0.
+    // A cell that is not cleared is not 0, and a record that is not written is no card.
     test.dirt.fill(u16::MAX);
     judged(&mut test, &trace(WRITES_TWICE));
     ordered(&mut test, &trace(WRITES_TWICE));
-    JUDGES.len() * (JUDGED.len() + ORDERED.len()) + translated()
+    JUDGES.len() * (JUDGED.len() + ORDERED.len()) + carded(&mut test) + translated()
+}
+
+/// What the judge needs, with a cell of the workspace more and so many cards.
+fn lent(trace: &Trace, cards: usize) -> Lent {
+    let [workspace, first, second, _] = needed(trace);
+    [workspace + 1, first, second, cards]
 }
 
 fn judged(test: &mut Test, trace: &Trace) {
-    let n = trace.len();
-    let lent = [WORKSPACE + n + 1, n, n];
+    let lent = lent(trace, 0);
     for (judge, change) in JUDGES.iter().flat_map(|judge| JUDGED.map(|change| (judge, change))) {
-        let mut wanted = test.slow.judge(trace, lent[0], n, n);
+        let mut wanted = test.slow.judge(trace, lent[0], lent[1], lent[2]);
         change(&mut wanted);
         noticed(test.judged_by(judge, trace, lent, &wanted), &wanted);
     }
+}
+
+fn carded(test: &mut Test) -> usize {
+    for (run, cards, changes) in CARDED {
+        let trace = trace(run);
+        let lent = lent(&trace, cards);
+        for change in changes {
+            let wanted = test.slow.judge(&trace, lent[0], lent[1], lent[2]);
+            let mut wanted = wanted.with_cards(&trace, cards);
+            change(&mut wanted);
+            noticed(test.judged_with_cards(&trace, lent, &wanted), &wanted);
+        }
+    }
+    CARDED.iter().map(|(.., changes)| changes.len()).sum()
 }
 
 fn ordered(test: &mut Test, trace: &Trace) {

@@ -99,9 +99,9 @@ impl Texts {
         // Behind the text stands a byte that would end its last line.
         let copy = [&text.0[..], b"\n"].concat();
         let lent_text = &copy[..text.0.len()];
-        let [kinds, tasks, operands] =
-            lent.map(|cells| Buffer::drawn(&self.dirt, &mut self.rng, cells));
-        let (mut kinds, mut tasks, mut operands) = (kinds.bytes(), tasks, operands);
+        let mut kinds = Buffer::drawn(&self.dirt, &mut self.rng, lent[0]);
+        let [mut tasks, mut operands] =
+            [lent[1], lent[2]].map(|cells| Buffer::drawn(&self.dirt, &mut self.rng, cells));
         let told = watched(&call, Arc::new(text.clone()), || {
             raw::translate(lent_text, kinds.lend(), tasks.lend(), operands.lend())
         });

@@ -30,7 +30,7 @@ impl Race<'_> {
         }
         let orders = self.orders.map(|order| self.order(order));
         let is_cut = orders.iter().any(Order::is_cut);
-        let more = if is_cut { " (--orders prints them whole)" } else { "" };
+        let more = if is_cut { " (judge --orders has all)" } else { "" };
         page.say(&format!(
             "Both orders can happen. They differ only in the two events in brackets{more}:"
         ));

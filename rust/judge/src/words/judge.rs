@@ -1,13 +1,13 @@
 //! The word for no word: judges files.
 
-use super::{name, unread, Failure, Status, Word, HELP, JSON, VERSION};
+use super::files::Files;
+use super::{name, Failure, Status, Word, HELP, JSON, JUDGED, VERSION};
 use crate::arguments::{Arguments, Options};
 use crate::phrases::printable;
 use crate::recording::{Recording, STANDARD_INPUT};
-use crate::standard::{complain, fault, is_output, is_same, print, shares_input};
+use crate::standard::{complain, fault, is_output, is_same, print};
 use crate::study::Study;
 use crate::{explain, objects, svg};
-use racejudge::Verdict;
 use std::ffi::{OsStr, OsString};
 use std::fs;
 use std::io::Read;
@@ -37,10 +37,8 @@ The first line of an answer is the proved judge's own:
   refused ROW POSITION    the file breaks a rule there, with no race before
 
 What follows it explains it, and is not proved. Events count from 0, lines of a file from 1.
-
-Status: 0 all clean, 1 a race, 2 a refusal, 3 something could not be judged, or the command line is
-wrong, or the output could not be written. Of several files the highest counts.
 ",
+    statuses: JUDGED,
     options: Options { alone: &[JSON, ORDERS, HELP, VERSION], valued: &[SVG] },
     run,
 };
@@ -50,10 +48,6 @@ struct Job {
     json: bool,
     whole_orders: bool,
     picture: Option<OsString>,
-    /// Each file's words have its name above them.
-    several: bool,
-    /// One file's words have been printed.
-    begun: bool,
 }
 
 /// What came of the picture.
@@ -68,40 +62,21 @@ pub enum Picture {
 }
 
 fn run(arguments: Arguments) -> Result<Status, Failure> {
-    let mut job = Job {
+    let job = Job {
         json: arguments.has(JSON),
         whole_orders: arguments.has(ORDERS),
         picture: arguments.value(SVG).cloned(),
-        several: arguments.operands.len() > 1,
-        begun: false,
     };
-    let files = arguments.operands;
-    check(&files, job.picture.as_deref()).map_err(Failure::Usage)?;
-    let mut worst = Status::Good;
-    for file in &files {
-        worst = worst.max(job.file(file)?);
+    let files = Files::of(arguments.operands)?;
+    if let Some(picture) = &job.picture {
+        check_picture(&files, picture).map_err(Failure::Usage)?;
     }
-    Ok(worst)
-}
-
-/// Says what is wrong with these files, or with the picture's beside them.
-fn check(files: &[OsString], picture: Option<&OsStr>) -> Result<(), String> {
-    let is_input = |file: &&OsString| *file == STANDARD_INPUT || shares_input(file);
-    if files.is_empty() {
-        return Err("no file is given".to_string());
-    }
-    if files.iter().filter(is_input).count() > 1 {
-        return Err("standard input is given twice, and can be read once".to_string());
-    }
-    match picture {
-        Some(_) if files.len() > 1 => Err(format!("{SVG} draws one file, and more are given")),
-        Some(picture) => check_picture(&files[0], picture),
-        None => Ok(()),
-    }
+    files.each(job.json, |file, above, recording| job.file(file, above, recording))
 }
 
 /// A picture goes to a file of its own, and is written over nothing but an older one.
-fn check_picture(file: &OsStr, picture: &OsStr) -> Result<(), String> {
+fn check_picture(files: &Files, picture: &OsStr) -> Result<(), String> {
+    let file = files.only().ok_or(format!("{SVG} draws one file, and more are given"))?;
     let name = printable(picture);
     if file == STANDARD_INPUT || picture == STANDARD_INPUT {
         return Err(format!("{SVG} draws from a file into a file, and takes no -"));
@@ -134,34 +109,17 @@ fn holds_else(path: &OsStr) -> bool {
 
 impl Job {
     /// Judges a file and prints what comes of it.
-    fn file(&mut self, file: &OsStr) -> Result<Status, Failure> {
-        let recording = match Recording::read(file) {
-            Ok(recording) => recording,
-            Err(wrong) => return unread(file, &wrong, self.json),
-        };
-        let study = Study::new(&recording);
+    fn file(&self, file: &OsStr, above: String, recording: &Recording) -> Result<Status, Failure> {
+        let study = Study::new(recording);
         if !self.json {
-            let words = explain::judged(&study, self.whole_orders);
-            print(&self.block(file, words))?;
+            print(&(above + &explain::judged(&study, self.whole_orders)))?;
         }
         let picture = self.draw(&study, file);
         print(&if self.json { objects::judged(file, &study, &picture) } else { told(&picture) })?;
-        Ok(match (&study.answer, &picture) {
-            (_, Picture::Failed(_)) => Status::Unjudged,
-            (Ok(Verdict::Clean), _) => Status::Good,
-            (Ok(Verdict::Race { .. }), _) => Status::Bad,
-            (Err(_), _) => Status::Refused,
+        Ok(match picture {
+            Picture::Failed(_) => Status::Unjudged,
+            _ => Status::of(&study.answer),
         })
-    }
-
-    /// The words for a file, set apart from those for the others.
-    fn block(&mut self, file: &OsStr, words: String) -> String {
-        if !self.several {
-            return words;
-        }
-        let gap = if self.begun { "\n" } else { "" };
-        self.begun = true;
-        format!("{gap}{}:\n{words}", name(file))
     }
 
     fn draw(&self, study: &Study, file: &OsStr) -> Picture {

@@ -22,7 +22,8 @@ halts that are put in, as `judge FILE` names them.
 The first line of the answer is that of the proved library: yes, no or refused ROW POSITION. What
 follows it explains it. The answer is yes also where P and Q are one event. Races do not matter
 here, but the whole trace must keep the rules.
-
+",
+    statuses: "
 Status: 0 yes, 1 no, 2 refused, 3 the file could not be read, or the command line is wrong, or the
 output could not be written.
 ",

@@ -57,11 +57,16 @@ impl Json {
     }
 
     #[track_caller]
-    pub fn numbers(&self) -> Vec<usize> {
+    pub fn items(&self) -> &[Json] {
         match self {
-            Json::List(values) => values.iter().map(Json::number).collect(),
+            Json::List(values) => values,
             _ => panic!("no list: {self:?}"),
         }
+    }
+
+    #[track_caller]
+    pub fn numbers(&self) -> Vec<usize> {
+        self.items().iter().map(Json::number).collect()
     }
 }
 

@@ -1,8 +1,9 @@
-//! What the tests share: the command's runs, files to run it on, and a strict reader of JSON.
+//! What the tests share: the command's runs, files to run it on, a strict reader of JSON, cards.
 
 // Each test file uses a part of it.
 #![allow(dead_code)]
 
+pub mod cards;
 pub mod json;
 
 use racejudge::{Event, Trace};

@@ -1,0 +1,5 @@
+-- The laws behind the contracts.
+pub mod Cases
+pub mod Heard
+pub mod Copies
+pub mod Translations

@@ -1,0 +1,146 @@
+// What a C caller is told: the judge of a whole trace, the ordering call and the translation of a text return a code and store two values, and
+// `specs/Codes.antt` says which. `capi` has them under their names in C.
+mod translation;
+
+ghost use mathlib.Core.Path.{_≡_};
+ghost use Rattle.trace.specs.Outcome.{judgeOutcome, orderingOutcome};
+ghost use Rattle.trace.specs.Slices.{slices};
+ghost use Rattle.trace.specs.Demands.{JudgeDemand1, JudgeDemand2, JudgeDemand3};
+ghost use Rattle.told.specs.Codes.{heard, judgeCall, judgeSeen, orderingCall, orderingSeen, translateCall, translateSeen, TranslateTells};
+use text::Translation;
+use text::limits::MAX_TEXT_EVENTS;
+use trace::Answer;
+use trace::Ordering;
+
+// What the judge returns.
+pub const CLEAN: u64 = 0;
+
+const RACE: u64 = 1;
+
+// What the ordering call returns.
+const NO: u64 = 0;
+
+const YES: u64 = 1;
+
+// What the translation returns where the text makes a trace, and where a slice has too few cells for every text.
+const TRANSLATED: u64 = 0;
+
+const SHORT: u64 = 3;
+
+// What all return where the trace, or the text, is turned back.
+pub const REFUSED: u64 = 2;
+
+// The judge of a whole trace.
+pub fn judge(
+    kinds: &[u8],
+    tasks: &[u16],
+    operands: &[u16],
+    ws: &mut [u16],
+    first: &mut [u16],
+    second: &mut [u16],
+    values: &mut [u64; 2],
+) -> u64
+    ensures outcome { λ r. ⌜ judgeSeen r (now (values .exit)) (now (ws .exit)) (now (first .exit)) (now (second .exit))
+        ≡ judgeCall (judgeOutcome (now (kinds .entry)) (now (tasks .entry)) (now (operands .entry))
+        (now (ws .entry)) (now (first .entry)) (now (second .entry))) ⌝ }
+    ensures demand1 { λ r. ⌜ JudgeDemand1 (now (kinds .entry)) (now (tasks .entry)) (now (operands .entry))
+        (now (ws .entry)) (now (first .entry)) (now (second .entry)) (heard r (now (values .exit)))
+        (now (ws .exit)) (now (first .exit)) (now (second .exit)) ⌝ }
+    ensures demand2 { λ r. ⌜ JudgeDemand2 (now (kinds .entry)) (now (tasks .entry)) (now (operands .entry))
+        (now (ws .entry)) (now (first .entry)) (now (second .entry)) (heard r (now (values .exit))) ⌝ }
+    ensures demand3 { λ r. ⌜ JudgeDemand3 (now (kinds .entry)) (now (tasks .entry)) (now (operands .entry))
+        (heard r (now (values .exit))) (now (first .entry)) (now (second .entry)) (now (first .exit)) (now (second .exit)) ⌝ }
+{
+    let answer = judge::judge(kinds, tasks, operands, ws, first, second);
+    match answer {
+        Answer::Clean => {
+            *values = [0, 0];
+            CLEAN
+        }
+        Answer::Race(s, t) => {
+            *values = [s as u64, t as u64];
+            RACE
+        }
+        Answer::Refused(refusal) => {
+            *values = [refusal.number as u64, refusal.position as u64];
+            REFUSED
+        }
+    }
+}
+
+// The ordering call: does event p reach event q?
+pub fn ordering(
+    kinds: &[u8],
+    tasks: &[u16],
+    operands: &[u16],
+    ws: &mut [u16],
+    p: usize,
+    q: usize,
+    values: &mut [u64; 2],
+) -> u64
+    ensures { λ r. ⌜ orderingSeen r (now (values .exit)) (now (ws .exit))
+        ≡ orderingCall (orderingOutcome (now (kinds .entry)) (now (tasks .entry)) (now (operands .entry)) (now (ws .entry)) p q) ⌝ }
+{
+    let answer = ordering::ordering(kinds, tasks, operands, ws, p, q);
+    match answer {
+        Ordering::No => {
+            *values = [0, 0];
+            NO
+        }
+        Ordering::Yes => {
+            *values = [0, 0];
+            YES
+        }
+        Ordering::Refused(refusal) => {
+            *values = [refusal.number as u64, refusal.position as u64];
+            REFUSED
+        }
+    }
+}
+
+// Text to a trace. The text is translated to spare slices first, since `translate` takes them of one size, and the lent ones may have more cells.
+pub fn translate(
+    text: &[u8],
+    kinds: &mut [u8],
+    tasks: &mut [u16],
+    operands: &mut [u16],
+    values: &mut [u64; 2],
+) -> u64
+    ensures outcome { λ r. ⌜ translateSeen r (now (values .exit)) (slices (now (kinds .exit)) (now (tasks .exit)) (now (operands .exit)))
+        ≡ translateCall (now (text .entry)) (slices (now (kinds .entry)) (now (tasks .entry)) (now (operands .entry))) ⌝ }
+    ensures form { λ r. ⌜ TranslateTells (now (text .entry)) (slices (now (kinds .entry)) (now (tasks .entry)) (now (operands .entry)))
+        (translateSeen r (now (values .exit)) (slices (now (kinds .exit)) (now (tasks .exit)) (now (operands .exit)))) ⌝ }
+{
+    if translation::is_short(kinds.len(), tasks.len(), operands.len()) {
+        *values = [0, 0];
+        return SHORT;
+    }
+    let mut spare_kinds = [0u8; MAX_TEXT_EVENTS];
+    let mut spare_tasks = [0u16; MAX_TEXT_EVENTS];
+    let mut spare_operands = [0u16; MAX_TEXT_EVENTS];
+    let translation = text::translate(
+        text,
+        &mut spare_kinds,
+        &mut spare_tasks,
+        &mut spare_operands,
+    );
+    match translation {
+        Translation::Events(count) => {
+            translation::copy_events(
+                &spare_kinds,
+                &spare_tasks,
+                &spare_operands,
+                kinds,
+                tasks,
+                operands,
+                count,
+            );
+            *values = [count as u64, 0];
+            TRANSLATED
+        }
+        Translation::Refused(refusal) => {
+            *values = [refusal.number as u64, refusal.position as u64];
+            REFUSED
+        }
+    }
+}
