@@ -52,7 +52,7 @@ unfolding wiped
 wipe-all k c d e f = rw (ne-eqb k 0 e) f
 
 pub wipe-room : (k : ℕ) (c : List ℕ) → Tables c k → k ≢ 0 → TALLY-CELLS ≤ length c
-wipe-room k c t e = t .room (omega arith)
+wipe-room k c t e = let room = t .room (omega arith) in omega arith
 
 pub few-asked : (records number met : ℕ) → records < LOCATIONS → number ≡ met → eqb number 0 ≡ (ltb records LOCATIONS && eqb met 0)
 few-asked records number met l e = rw (lt-ltb records LOCATIONS l, e)
