@@ -11,7 +11,7 @@
  *
  * No call keeps anything between calls: what it answers and leaves depends on what it is lent alone,
  * and threads may call at the same time, each with buffers of its own. racejudge_translate takes some
- * 25,000 bytes of the stack, racejudge_judge and racejudge_ordering less than 1,000.
+ * 25,000 bytes of the stack, the others less than 1,000.
  *
  * A TRACE is three slices of one length. Entry p of each makes event p; positions count from 0.
  *   kinds     RACEJUDGE_READ .. RACEJUDGE_HALT

@@ -12,8 +12,12 @@ use ghost.Atoms.{Atoms}
 use contract.Monad.{fact, factI}
 use types.Kit.{Given, Item, Step, step, prop}
 
-pub claims : {M : Type 1} {𝓤 : URA M} {H : Heap 𝓤} {A : Atoms 𝓤} {K : Type 0} {W : Given 𝓤 H A} {Γ : List (Item 𝓤)} → K → {F P : SProp 𝓤} → ent 𝓤 (emp 𝓤) F → Step K W Γ (prop P) Γ (prop (sep 𝓤 P F))
-claims {𝓤 = 𝓤} t {F} {P} h = step (λ s. record { prf = via 𝓤 P (s .prf) (via 𝓤 (sep 𝓤 (emp 𝓤) P) (emp∗ 𝓤 P) (via 𝓤 (sep 𝓤 F P) (monoL 𝓤 P h) (comm∗ 𝓤 F P))) })
+pub claims : {M : Type 1} {𝓤 : URA M} {H : Heap 𝓤} {A : Atoms 𝓤} {K : Type 0} {W : Given 𝓤 H A} {Γ : List (Item 𝓤)} → K → {F P : SProp 𝓤}
+    → ent 𝓤 (emp 𝓤) F → Step K W Γ (prop P) Γ (prop (sep 𝓤 P F))
+claims {𝓤 = 𝓤} t {F} {P} h = step (λ s. record {
+  prf = via 𝓤 P (s .prf) (via 𝓤 (sep 𝓤 (emp 𝓤) P) (emp∗ 𝓤 P) (via 𝓤 (sep 𝓤 F P) (monoL 𝓤 P h)
+      (comm∗ 𝓤 F P)));
+})
 
 module _ {M : Type 1} (𝓤 : URA M) where
   pub stated : {φ : Type 0} → φ → ent 𝓤 (emp 𝓤) (fact 𝓤 φ)
