@@ -6,3 +6,4 @@ pub mod Counting
 pub mod Records
 pub mod Demanding
 pub mod Finishing
+pub mod Meaning

@@ -9,7 +9,7 @@ use native.Mathlib.Omega.{arith}
 use lib.Dec.{eqb, ltb}
 use borrow.Author.Tests.{eqb-true, eqb-false, eq-eqb, ltb-true, ltb-false, lt-ltb}
 use Rattle.trace.specs.Orders.{orThis}
-use Rattle.trace.specs.Search.{someBelow, leastBelow}
+use Rattle.trace.specs.Search.{someBelow, leastBelow, greatestBelow}
 
 -- ---- case analysis, the scrutinee first
 
@@ -110,3 +110,29 @@ pub least-is : (n : ℕ) (f : ℕ → Bool) → LeastIs n f (leastBelow n f)
 unfolding leastBelow
 least-is zero f = λ m h. absurd (omega arith)
 least-is (suc n) f = least-more n f (leastBelow n f) (least-is n f) (f n) refl
+
+-- Likewise the greatest.
+pub record Greatest (n : ℕ) (f : ℕ → Bool) (s : ℕ) : Type 0 where
+  pub below : s < n
+  pub passed : f s ≡ true
+  pub none-after : (m : ℕ) → s < m → m < n → f m ≡ false
+
+abbrev pub GreatestIs : ℕ → (ℕ → Bool) → Option ℕ → Type 0
+GreatestIs n f (some s) = Greatest n f s
+GreatestIs n f none = (m : ℕ) → m < n → f m ≡ false
+
+greatest-more : (n : ℕ) (f : ℕ → Bool) (o : Option ℕ) → GreatestIs n f o → (b : Bool) → f n ≡ b → GreatestIs (suc n) f (cond b (some n) o)
+greatest-more n f o G true e = record { below = omega arith; passed = e; none-after = λ m a h. absurd (omega arith) }
+greatest-more n f (some s) G false e =
+    let i = G .below in
+    record {
+      below = omega arith;
+      passed = G .passed;
+      none-after = λ m a h. either (last-or-below m n h) (λ q. rw q e) (λ j. G .none-after m a j);
+    }
+greatest-more n f none G false e = λ m h. either (last-or-below m n h) (λ q. rw q e) (λ i. G m i)
+
+pub greatest-is : (n : ℕ) (f : ℕ → Bool) → GreatestIs n f (greatestBelow n f)
+unfolding greatestBelow
+greatest-is zero f = λ m h. absurd (omega arith)
+greatest-is (suc n) f = greatest-more n f (greatestBelow n f) (greatest-is n f) (f n) refl
