@@ -93,6 +93,17 @@ pub const FIRST: usize = 2;
 
 pub const SECOND: usize = 3;
 
+// Of the judge with cards also a field of a card, whose cell is the location; and how many cards are due.
+pub const READS: usize = 4;
+
+pub const WRITES: usize = 5;
+
+pub const EARLIEST: usize = 6;
+
+pub const LATEST: usize = 7;
+
+pub const DUE: usize = 8;
+
 // A call: of the judge, or of the ordering call for p and q; how many cells it is lent; a salt for the dirt; and what must come of it, where that is told.
 pub struct Call {
     pub ordering: bool,

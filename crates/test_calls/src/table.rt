@@ -1,14 +1,19 @@
-// Tables as text: numbers in base ten, and a word for each kind of event, verdict, call and buffer. Each makes a cell; what stands between them makes none,
-// and a comment goes from # to the end of its line.
+// Tables as text: numbers in base ten, and a word for each kind of event, verdict, call, buffer and field of a card. Each makes a cell; what stands between them
+// makes none, and a comment goes from # to the end of its line.
 use crate::CLEAN;
+use crate::DUE;
+use crate::EARLIEST;
 use crate::FIRST;
+use crate::LATEST;
 use crate::NO;
 use crate::NO_BUFFER;
 use crate::RACE;
+use crate::READS;
 use crate::REFUSED;
 use crate::SECOND;
 use crate::UNTOLD;
 use crate::WORKSPACE;
+use crate::WRITES;
 use crate::YES;
 use test_cells::least;
 use test_cells::more;
@@ -50,6 +55,12 @@ fn number_of(word: usize) -> usize {
         0x7773 => WORKSPACE,
         0x6669727374 => FIRST,
         0x7365636f6e64 => SECOND,
+        // reads, writes, earliest, latest, due
+        0x7265616473 => READS,
+        0x777269746573 => WRITES,
+        0x6561726c69657374 => EARLIEST,
+        0x6c6174657374 => LATEST,
+        0x647565 => DUE,
         _ => UNKNOWN,
     }
 }

@@ -1,7 +1,5 @@
 // The runs that document 01 tells: each trace with its answer, and with both orders where they are told. Each is also judged by the slow judge, and asked
 // about every pair of positions.
-use crate::outcome::Outcome;
-use crate::outcome::make_outcome;
 use test_calls::REFUSED;
 use test_calls::asking;
 use test_calls::judging;
@@ -20,6 +18,8 @@ use test_cells::more;
 use test_cells::plus;
 use test_compare::agrees;
 use test_compare::compare;
+use test_outcome::Outcome;
+use test_outcome::make_outcome;
 
 // Both ordering calls agree on every pair of positions below 16, those past the end included.
 fn pairs_agree(events: &[u16], n: usize, memory: &mut [usize]) -> bool {

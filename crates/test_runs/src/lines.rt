@@ -1,7 +1,4 @@
 // Traces that have all 1,024 tasks in the line at once: both judges and both ordering calls must answer as written here.
-use crate::outcome::Outcome;
-use crate::outcome::make_outcome;
-use crate::outcome::with;
 use test_calls::CLEAN;
 use test_calls::Call;
 use test_calls::NO;
@@ -20,6 +17,9 @@ use test_calls::same_reply;
 use test_cells::less;
 use test_cells::plus;
 use test_compare::compare;
+use test_outcome::Outcome;
+use test_outcome::make_outcome;
+use test_outcome::with;
 
 fn answers(events: &[u16], call: Call, want: Reply, memory: &mut [usize]) -> bool {
     same_reply(compare(events, call, memory), want)

@@ -2,40 +2,18 @@
 mod known;
 mod large;
 mod lines;
-mod outcome;
 mod plants;
 mod random;
 mod sizes;
 mod tables;
 
 use libc::STDOUT_FILENO;
-use outcome::Outcome;
-use outcome::make_outcome;
 use random::count_at;
 use test_cells::plus;
-
-fn print(text: &[u8], n: usize) {
-    io::write_all(STDOUT_FILENO, text);
-    io::print_decimal(STDOUT_FILENO, n as u64);
-    io::write_all(STDOUT_FILENO, b"\n");
-}
-
-// Whether all came out well; else the first that did not is told by its number.
-fn told(text: &[u8], fault: &[u8], outcome: Outcome) -> bool {
-    print(text, outcome.agreed);
-    if !outcome.all {
-        print(fault, outcome.agreed);
-    }
-    outcome.all
-}
-
-fn all_agree(text: &[u8], outcome: Outcome) -> bool {
-    told(text, b"MISMATCH at number ", outcome)
-}
-
-fn all_noticed(text: &[u8], outcome: Outcome) -> bool {
-    told(text, b"NOT NOTICED: number ", outcome)
-}
+use test_outcome::all_agree;
+use test_outcome::all_noticed;
+use test_outcome::make_outcome;
+use test_outcome::print;
 
 fn print_refusal(counts: [usize; 65], from: usize, number: usize) {
     io::write_all(STDOUT_FILENO, b"  refused ");

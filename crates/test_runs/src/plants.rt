@@ -1,6 +1,4 @@
 // Wrong expectations: the comparison must notice each of them.
-use crate::outcome::Outcome;
-use crate::outcome::make_outcome;
 use crate::tables::go_through;
 use test_calls::RACE;
 use test_calls::judging;
@@ -12,6 +10,8 @@ use test_calls::roomy;
 use test_calls::same_reply;
 use test_compare::agrees;
 use test_compare::compare;
+use test_outcome::Outcome;
+use test_outcome::make_outcome;
 
 pub fn is_noticed(cells: &[u16], row: usize, events: &[u16], memory: &mut [usize]) -> bool {
     !agrees(events, planted(cells, row), memory)

@@ -1,5 +1,4 @@
 // Rows 1 to 4 of document 01's table, and the largest traces: reads by task 0 in slices of many lengths.
-use crate::outcome::Outcome;
 use crate::tables::go_through;
 use test_calls::REFUSED;
 use test_calls::YES;
@@ -12,6 +11,7 @@ use test_calls::make_reply;
 use test_calls::same_reply;
 use test_cells::plus;
 use test_compare::compare;
+use test_outcome::Outcome;
 use test_slow::Sizes;
 
 // The case of the ordering call's answer where the judge's is this one. "It has no order buffers, so refusal 4 is absent": past rows 1 to 3 the read at

@@ -1,9 +1,9 @@
 // The tables whose rows have a fixed number of cells: the lengths of slices, and the plants.
-use crate::outcome::Outcome;
-use crate::outcome::make_outcome;
 use crate::plants;
 use crate::sizes;
 use test_calls::table::CELLS;
+use test_outcome::Outcome;
+use test_outcome::make_outcome;
 
 // Whether a row comes out as it must.
 fn row_agrees(

@@ -3,6 +3,8 @@ use test_cells::get;
 use test_cells::get_byte;
 
 // "Kinds are 0 read, 1 write, 2 fork, 3 join, 4 halt."
+pub const READ: usize = 0;
+
 pub const WRITE: usize = 1;
 
 pub const FORK: usize = 2;

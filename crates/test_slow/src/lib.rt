@@ -1,4 +1,6 @@
-// The slow judge and the slow ordering call: document 01 taken at its word, with no part of the fast ones. Of `trace` it uses the answer types alone.
+// The slow judge, the slow ordering call and slow cards: documents 01 and 02 taken at their word, with no part of the fast ones. Of `trace` it uses the answer
+// types alone.
+pub mod card;
 mod events;
 mod memory;
 mod paths;
@@ -23,6 +25,9 @@ const MOST_EVENTS: usize = 32768;
 
 // "The workspace has at least 12,288 cells more than the trace has events."
 const WORKSPACE: usize = 12288;
+
+// "fewer than 1,024 records"
+const RECORDS: usize = 1024;
 
 fn refused(number: usize, position: usize) -> Answer {
     Answer::Refused(Refusal { number, position })
@@ -144,6 +149,18 @@ fn judge_row(sizes: Sizes) -> usize {
     0
 }
 
+// Rows 1 to 4 and 16, or 0: "16, fewer than 1,024 records, a size check tested after 4".
+fn cards_row(sizes: Sizes, records: usize) -> usize {
+    let number = judge_row(sizes);
+    if number != 0 {
+        return number;
+    }
+    if records < RECORDS {
+        return 16;
+    }
+    0
+}
+
 // What the judge must answer to slices of these sizes; kinds, tasks and operands are of theirs. After a race the two orders stand at ORDERS.
 pub fn judge(
     kinds: &[u8],
@@ -163,11 +180,28 @@ pub fn judge(
     answer
 }
 
-// How many cells of the workspace a call on n events must leave 0, by the number of its refusal, if it is one: "After refusals 1 to 4 .. the workspace is
-// unchanged. After every other answer the first 12,288 cells plus one per event are 0, and the rest is unchanged."
+// What the judge with cards must answer where so many records are lent: a check more, and else as the judge.
+pub fn judge_cards(
+    kinds: &[u8],
+    tasks: &[u16],
+    operands: &[u16],
+    sizes: Sizes,
+    records: usize,
+    memory: &mut [usize],
+) -> Answer {
+    let number = cards_row(sizes, records);
+    if number != 0 {
+        return refused(number, 0);
+    }
+    judge(kinds, tasks, operands, sizes, memory)
+}
+
+// How many cells of the workspace a call on n events must leave 0, by the number of its refusal, if it is one: "After refusals 1 to 4, and any later one tested
+// before the first event is looked at, the workspace is unchanged. After every other answer the first 12,288 cells plus one per event are 0, and the rest is
+// unchanged."
 pub fn cleared(refusal: usize, n: usize) -> usize {
     match refusal {
-        1 | 2 | 3 | 4 => 0,
+        1 | 2 | 3 | 4 | 16 => 0,
         _ => plus(WORKSPACE, n),
     }
 }

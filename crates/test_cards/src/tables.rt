@@ -1,0 +1,35 @@
+// The tables whose rows have a fixed number of cells: the lengths of slices, the cards that are written out, and the plants.
+use crate::lengths;
+use crate::plants;
+use crate::written;
+use test_calls::table::CELLS;
+use test_outcome::Outcome;
+use test_outcome::make_outcome;
+
+pub enum Table {
+    Lengths,
+    Cards,
+    Plants,
+}
+
+// Whether a row comes out as it must.
+fn row_agrees(cells: &[u16], row: usize, table: Table, events: &[u16]) -> bool {
+    match table {
+        Table::Lengths => lengths::run_agrees(cells, row, events),
+        Table::Cards => written::row_agrees(cells, row),
+        Table::Plants => plants::is_noticed(cells, row, events),
+    }
+}
+
+// The table has so many cells: some, and none behind the last row's.
+pub fn go_through(cells: &[u16], count: usize, table: Table, events: &[u16]) -> Outcome {
+    let rows = count / CELLS;
+    let mut row = 0;
+    while row < rows {
+        if !row_agrees(cells, row, table, events) {
+            return make_outcome(row, false);
+        }
+        row += 1;
+    }
+    make_outcome(row, (count % CELLS == 0) & (0 < row))
+}

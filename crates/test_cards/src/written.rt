@@ -1,0 +1,85 @@
+// Cards written out by hand, to which the slow ones are held.
+use crate::filled::same_card;
+use crate::tables::Table;
+use crate::tables::go_through;
+use test_calls::YES;
+use test_calls::table::CELLS;
+use test_calls::table::read_table;
+use test_cells::get;
+use test_cells::least;
+use test_cells::plus;
+use test_outcome::Outcome;
+use test_slow::card::Card;
+use test_slow::card::card_of;
+
+// Of each card: of how many of the events; its location; reads, writes, first and last position; and whether it is told right. Answers how many cells the table
+// has, as read_table does.
+fn read_cards(cells: &mut [u16]) -> usize {
+    read_table(
+        b"
+# no access, the first, and one more each time
+0 5 0 0 65535 65535 YES
+1 5 0 0 65535 65535 YES
+2 5 0 1 1 1 YES
+3 5 1 1 1 2 YES
+4 5 1 2 1 3 YES
+10 5 1 3 1 8 YES
+11 5 2 3 1 10 YES
+# the last location; the operands of forks, joins and halts are none
+10 1023 1 0 6 6 YES
+10 0 0 0 65535 65535 YES
+10 1 0 0 65535 65535 YES
+10 2 0 0 65535 65535 YES
+# each field told wrong, and the marker
+10 5 2 3 1 8 NO
+10 5 1 2 1 8 NO
+10 5 1 3 2 8 NO
+10 5 1 3 1 9 NO
+10 0 0 0 0 65535 NO
+10 0 0 0 65535 0 NO
+10 0 0 0 65534 65534 NO
+",
+        cells,
+    )
+}
+
+// The slow card of a location, of the first n events of `plants`: here their kinds and operands.
+fn slow_card(n: usize, l: usize) -> Card {
+    let kinds = [2u8, 1, 0, 1, 4, 3, 0, 2, 1, 4, 0];
+    let operands = [1u16, 5, 5, 5, 0, 1, 1023, 2, 5, 0, 5];
+    let k = least(n, 11);
+    card_of(&kinds[0..k], &operands[0..k], l)
+}
+
+pub fn make_card(reads: usize, writes: usize, first: usize, last: usize) -> Card {
+    Card {
+        reads,
+        writes,
+        first,
+        last,
+    }
+}
+
+// The card that the table tells at a cell.
+fn card_at(cells: &[u16], at: usize) -> Card {
+    make_card(
+        get(cells, plus(at, 2)),
+        get(cells, plus(at, 3)),
+        get(cells, plus(at, 4)),
+        get(cells, plus(at, 5)),
+    )
+}
+
+pub fn row_agrees(cells: &[u16], row: usize) -> bool {
+    let at = (row % 65536) * CELLS;
+    let slow = slow_card(get(cells, at), get(cells, plus(at, 1)));
+    let right = get(cells, plus(at, 6)) == YES;
+    same_card(slow, card_at(cells, at)) == right
+}
+
+pub fn try_all() -> Outcome {
+    let mut cells = [0u16; 150];
+    let count = read_cards(&mut cells);
+    let none = [0u16; 1];
+    go_through(&cells, count, Table::Cards, &none)
+}
