@@ -40,7 +40,7 @@
  *    1  the three slices differ in length
  *    2  more than 32,768 events
  *    3  the workspace is too short
- *    4  an order buffer has fewer cells than the trace has events (the judge only)
+ *    4  an order buffer has fewer cells than the trace has events (the judge, with cards or without)
  *    5  the kind is above 4
  *    6  task 0 has halted
  *    7  the actor is not the running task

@@ -3,12 +3,13 @@
 ghost use mathlib.Core.Path.{_≡_};
 ghost use Prim.Native.Nat.{_≤_};
 ghost use lib.ListN.{length};
+ghost use Rattle.trace.specs.Lent.{lentTrace};
 ghost use Rattle.trace.specs.Outcome.{judgeOutcome, orderingOutcome};
 ghost use Rattle.trace.specs.Slices.{slices};
 ghost use Rattle.trace.specs.Demands.{JudgeDemand1, JudgeDemand2, JudgeDemand3};
 ghost use Rattle.told.specs.Codes.{heard, judgeCall, judgeSeen, orderingCall, orderingSeen, translateCall, translateSeen, TranslateTells};
 ghost use Rattle.cards.specs.Cards.{withCards, cardsOutcome, cardsCall, cardsSeen};
-ghost use Rattle.cards.specs.Demands.{CardsDemand1, CardsDemand2};
+ghost use Rattle.cards.specs.Demands.{CardsHeld, CardsDemand1, CardsDemand2};
 ghost use Rattle.cards.specs.Tally.{cardIn, Tables};
 use cards::Card;
 
@@ -98,9 +99,11 @@ pub extern "C" fn racejudge_judge_cards(
     ensures outcome { λ r. ⌜ cardsSeen r (now (values .exit)) (now (ws .exit)) (now (first .exit)) (now (second .exit)) (now (cards .exit))
         ≡ cardsCall (cardsOutcome (now (kinds .entry)) (now (tasks .entry)) (now (operands .entry))
         (now (ws .entry)) (now (first .entry)) (now (second .entry)) (now (cards .entry))) ⌝ }
+    ensures cards { λ r. ⌜ CardsHeld (lentTrace (kinds .entry) (tasks .entry) (operands .entry)) (length (now (kinds .entry)))
+        (heard r (now (values .exit))) (now (cards .entry)) (now (cards .exit)) ⌝ }
     ensures demand1 { λ r. ⌜ CardsDemand1 (now (kinds .entry)) (now (tasks .entry)) (now (operands .entry))
         (now (ws .entry)) (now (first .entry)) (now (second .entry)) (now (cards .entry)) (heard r (now (values .exit)))
-        (now (ws .exit)) (now (first .exit)) (now (second .exit)) (now (cards .exit)) ⌝ }
+        (now (ws .exit)) (now (first .exit)) (now (second .exit)) ⌝ }
     ensures demand2 { λ r. ⌜ CardsDemand2 (now (kinds .entry)) (now (tasks .entry)) (now (operands .entry))
         (now (ws .entry)) (now (first .entry)) (now (second .entry)) (now (cards .entry)) (heard r (now (values .exit))) ⌝ }
     ensures demand3 { λ r. ⌜ JudgeDemand3 (now (kinds .entry)) (now (tasks .entry)) (now (operands .entry))

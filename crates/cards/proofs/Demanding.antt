@@ -7,11 +7,11 @@ use native.Mathlib.Omega.{arith}
 use lib.ListN.{length}
 use Rattle.trace.specs.Trace.{traceOf, LOCATIONS}
 use Rattle.trace.specs.Line.{Checked, passes, fails}
-use Rattle.trace.specs.Outcome.{refused, sizes, orderRoom, Outcome, judgeChecked, judgeOutcome}
+use Rattle.trace.specs.Outcome.{says, refused, clean, sizes, orderRoom, Outcome, judgeChecked, judgeOutcome}
 use Rattle.trace.specs.Demands.{JudgeDemand1, JudgeDemand3}
 use Rattle.trace.proofs.Tests.{either, lt-or-le}
 use Rattle.trace.proofs.Lines.{by-check, passes-not-fails}
-use Rattle.trace.proofs.Sizes.{sized-first}
+use Rattle.trace.proofs.Sizes.{sized-first, refused-not-says, says-sized}
 use Rattle.trace.proofs.Demand1.{judge-demand-1}
 use Rattle.trace.proofs.Demand2.{demand-2-checked}
 use Rattle.trace.proofs.Demand3.{demand-3-checked}
@@ -19,7 +19,8 @@ use Rattle.told.specs.Codes.{heard, judgeCall, judgeSeen}
 use Rattle.told.proofs.Heard.{seen-heard, seen-workspace, seen-first, seen-second}
 use Rattle.cards.specs.declared.Card.{Card}
 use Rattle.cards.specs.Cards.{cardsAfter, cardRoom, cardSizes, judgedWith, CardsCall, cardsOutcome, cardsCall, cardsSeen}
-use Rattle.cards.specs.Demands.{FewRecords, CardsDemand1, few-records, as-judged, CardsDemand2}
+use Rattle.cards.specs.Demands.{CardsHeld, FewRecords, CardsDemand1, few-records, as-judged, CardsDemand2}
+use Rattle.cards.proofs.Meaning.{cards-held}
 use Rattle.cards.proofs.Counting.{few-sizes, same-sizes, judged-same}
 
 module _ (kinds tasks operands workspace first second : List ℕ) (cards : List Card) where
@@ -31,9 +32,6 @@ module _ (kinds tasks operands workspace first second : List ℕ) (cards : List 
 
   abbrev o : Outcome
   o = judgedWith kinds tasks operands workspace first second (length cards)
-
-  abbrev left : List Card
-  left = cardsAfter (o .answer) (traceOf kinds tasks operands) (length kinds) cards
 
   -- Row 16 is met, or not.
   few-or-not : Few ⊎ (Few → ⊥)
@@ -54,14 +52,27 @@ module _ (kinds tasks operands workspace first second : List ℕ) (cards : List 
       (λ f. absurd (passes-not-fails e (few-sizes kinds tasks operands workspace first second (length cards) (f .events) (f .others-pass) (f .few))))
       (λ unmet. sym (same-sizes kinds tasks operands workspace first second (length cards) (not-few unmet)) ∙ e)
 
+  few-refused : Few → o .answer ≡ refused 16 0
+  unfolding judgedWith judgeChecked
+  few-refused f = rw (few-sizes kinds tasks operands workspace first second (length cards) (f .events) (f .others-pass) (f .few))
+
+  -- Where the answer is clean, there are records enough.
+  clean-enough : o .answer ≡ says clean → LOCATIONS ≤ length cards
+  clean-enough e =
+      either few-or-not (λ f. absurd (refused-not-says (few-refused f) e))
+      (λ unmet.
+      let same = judged-same kinds tasks operands workspace first second (length cards) (not-few unmet) in
+      let passed = says-sized kinds tasks operands workspace first second (sym (ap (λ (z : Outcome). z .answer) same) ∙ e) in
+      not-few unmet (passed .0) (passed .1))
+
   -- DEMAND 1.
-  few-met : Few → CardsDemand1 kinds tasks operands workspace first second cards (o .answer) (o .workspace) (o .first) (o .second) left
-  unfolding judgedWith judgeChecked cardsAfter
+  few-met : Few → CardsDemand1 kinds tasks operands workspace first second cards (o .answer) (o .workspace) (o .first) (o .second)
+  unfolding judgedWith judgeChecked
   few-met f =
       rw (few-sizes kinds tasks operands workspace first second (length cards) (f .events) (f .others-pass) (f .few))
-      (few-records f refl refl refl refl refl)
+      (few-records f refl refl refl refl)
 
-  cards-demand-1 : CardsDemand1 kinds tasks operands workspace first second cards (o .answer) (o .workspace) (o .first) (o .second) left
+  cards-demand-1 : CardsDemand1 kinds tasks operands workspace first second cards (o .answer) (o .workspace) (o .first) (o .second)
   cards-demand-1 =
       either few-or-not few-met
       (λ unmet.
@@ -86,9 +97,10 @@ module _ (kinds tasks operands workspace first second : List ℕ) (cards : List 
   abbrev pub CardsPromised : Type 0
   CardsPromised =
       (cardsSeen code values w a b records ≡ cardsCall (cardsOutcome kinds tasks operands workspace first second cards))
-      × (CardsDemand1 kinds tasks operands workspace first second cards (heard code values) w a b records
+      × (CardsHeld (traceOf kinds tasks operands) (length kinds) (heard code values) cards records
+      × (CardsDemand1 kinds tasks operands workspace first second cards (heard code values) w a b
       × (CardsDemand2 kinds tasks operands workspace first second cards (heard code values)
-      × JudgeDemand3 kinds tasks operands (heard code values) first second a b))
+      × JudgeDemand3 kinds tasks operands (heard code values) first second a b)))
 
   pub promised : cardsSeen code values w a b records ≡ cardsCall (cardsOutcome kinds tasks operands workspace first second cards) → CardsPromised
   unfolding cardsCall cardsOutcome
@@ -98,7 +110,10 @@ module _ (kinds tasks operands workspace first second : List ℕ) (cards : List 
       let held : records ≡ cardsAfter (o .answer) (traceOf kinds tasks operands) (length kinds) cards = ap (λ (c : CardsCall). c .cards) e in (
         e,
         rw (seen-heard o seen, seen-workspace o seen, seen-first o seen, seen-second o seen, held) (
-          cards-demand-1 kinds tasks operands workspace first second cards,
-          (cards-demand-2 kinds tasks operands workspace first second cards, cards-demand-3 kinds tasks operands workspace first second cards),
+          cards-held (traceOf kinds tasks operands) (length kinds) (o .answer) cards (clean-enough kinds tasks operands workspace first second cards),
+          (
+            cards-demand-1 kinds tasks operands workspace first second cards,
+            (cards-demand-2 kinds tasks operands workspace first second cards, cards-demand-3 kinds tasks operands workspace first second cards),
+          ),
         ),
       )

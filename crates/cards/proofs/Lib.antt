@@ -4,6 +4,7 @@ pub mod Touching
 pub mod Tallying
 pub mod Counting
 pub mod Records
+pub mod Meaning
 pub mod Demanding
 pub mod Finishing
-pub mod Meaning
+pub mod LaidOut

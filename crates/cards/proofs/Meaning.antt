@@ -1,24 +1,24 @@
--- What a card says of its location, by events and not by searches; and the cards of a run, and row 16, computed. Assumes nothing.
+-- What K1 demands of a card and of the records is what the outcome has; and the cards of a run, and row 16, computed. Assumes nothing.
 use Prim.Native.Nat.{ℕ, _+_, _<_, _≤_}
 use mathlib.Core.Path.{_≡_, refl, sym, ap, _∙_}
 use mathlib.Core.Bool.{true, false, _&&_, true≢false}
 use mathlib.Core.List.{List, [], _∷_}
 use mathlib.Core.Option.{Option, none, some}
 use native.Mathlib.Omega.{arith}
-use Rattle.trace.specs.Trace.{Trace, traceOf, isAccess}
+use lib.ListN.{length, getD}
+use Rattle.trace.specs.Trace.{Trace, traceOf, isAccess, LOCATIONS}
 use Rattle.trace.specs.Line.{Checked, passes, fails, row}
 use Rattle.trace.specs.Search.{leastBelow, greatestBelow, countBelow}
+use Rattle.trace.specs.Outcome.{Reply, says, refused, Verdict, clean, race}
+use Rattle.trace.proofs.Sizes.{refused-not-says}
 use Rattle.trace.proofs.Tests.{LeastIs, least-is, GreatestIs, greatest-is, either, lt-or-le}
 use Rattle.cards.specs.declared.Card.{Card}
-use Rattle.cards.specs.Cards.{accesses, touches, NOWHERE, orNowhere, cardOf, cardRoom}
+use Rattle.cards.specs.Cards.{accesses, touches, NOWHERE, orNowhere, cardOf, cardsAfter, cardRoom}
+use Rattle.cards.specs.Demands.{CardSays, CardsHeld}
+use Rattle.cards.proofs.Records.{with-length, with-at, with-past}
 
--- Of the first n events of a trace, where c is the card of l:
-pub record CardSays (tr : Trace) (n l : ℕ) (c : Card) : Type 0 where
-  -- "65,535 for both where none did"
-  pub untouched : ((p : ℕ) → p < n → touches tr l p ≡ false) → (c .first ≡ NOWHERE) × (c .last ≡ NOWHERE)
-  -- "the first and last position that touched it": both did, and whatever did lies between them.
-  pub first-touches : (p : ℕ) → p < n → touches tr l p ≡ true → (c .first ≤ p) × (touches tr l (c .first) ≡ true)
-  pub last-touches : (p : ℕ) → p < n → touches tr l p ≡ true → (p ≤ c .last) × (c .last < n) × (touches tr l (c .last) ≡ true)
+race-not-clean : {s t : ℕ} → _≡_ {A = Reply Verdict} (says (race s t)) (says clean) → ⊥
+race-not-clean e = let z : _≡_ {A = ℕ} 0 1 = cc e in omega arith
 
 module _ (tr : Trace) (n l : ℕ) where
   first-none : (o : Option ℕ) → LeastIs n (touches tr l) o → ((p : ℕ) → p < n → touches tr l p ≡ false) → orNowhere o ≡ NOWHERE
@@ -50,10 +50,36 @@ module _ (tr : Trace) (n l : ℕ) where
       let least = least-is n (touches tr l) in
       let greatest = greatest-is n (touches tr l) in
       record {
+        reads = refl;
+        writes = refl;
         untouched = λ never. (first-none (leastBelow n (touches tr l)) least never, last-none (greatestBelow n (touches tr l)) greatest never);
         first-touches = first-some (leastBelow n (touches tr l)) least;
         last-touches = last-some (greatestBelow n (touches tr l)) greatest;
       }
+
+-- What K1 demands holds of the records that the outcome asks for.
+pub cards-held : (tr : Trace) (n : ℕ) (answer : Reply Verdict) (cards : List Card) → (answer ≡ says clean → LOCATIONS ≤ length cards)
+    → CardsHeld tr n answer cards (cardsAfter answer tr n cards)
+unfolding cardsAfter
+cards-held tr n (says clean) cards enough =
+    let room = enough refl in
+    record {
+      enough = enough;
+      when-clean = λ e l s. rw (with-at (cardOf tr n) LOCATIONS cards room l s) (card-says tr n l);
+      other-verdicts = λ other. absurd (other refl);
+      past = λ l s. with-past (cardOf tr n) LOCATIONS cards room l s;
+      one-length = with-length (cardOf tr n) LOCATIONS cards room;
+    }
+cards-held tr n (says (race s t)) cards enough =
+    record { enough = enough; when-clean = λ e. absurd (race-not-clean e); other-verdicts = λ other. refl; past = λ l h. refl; one-length = refl }
+cards-held tr n (refused number position) cards enough =
+    record {
+      enough = enough;
+      when-clean = λ e. absurd (refused-not-says refl e);
+      other-verdicts = λ other. refl;
+      past = λ l h. refl;
+      one-length = refl;
+    }
 
 -- ---- computed
 

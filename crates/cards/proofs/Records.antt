@@ -4,11 +4,13 @@ use mathlib.Core.Path.{_≡_, refl, sym, ap, _∙_}
 use mathlib.Core.List.{List, [], _∷_, _++_, map}
 use native.Mathlib.Omega.{arith}
 use lib.ListN.{length, set, drop, getD, length-map, length-append, length-drop}
-use lib.Seq.{drop-cons, append-snoc, set-at}
+use lib.Seq.{drop-cons, append-snoc, set-at, getD-set-same, getD-set-other}
 use Rattle.trace.specs.Orders.{countUp, positions}
+use Rattle.trace.proofs.Tests.{either, last-or-below}
 use Rattle.trace.proofs.Lists.{positions-snoc}
 use Rattle.cards.specs.declared.Card.{Card}
 use Rattle.cards.specs.Cards.{withCards}
+use Rattle.cards.specs.Demands.{blank}
 
 length-countUp : (k m : ℕ) → length (countUp k m) ≡ m
 length-countUp k zero = refl
@@ -17,10 +19,6 @@ length-countUp k (suc m) = ap suc (length-countUp (suc k) m)
 map-snoc : (card : ℕ → Card) (xs : List ℕ) (x : ℕ) → map card (xs ++ (x ∷ [])) ≡ map card xs ++ (card x ∷ [])
 map-snoc card [] x = refl
 map-snoc card (y ∷ xs) x = ap {B = List Card} (λ (z : List Card). card y ∷ z) (map-snoc card xs x)
-
--- Any card, for `getD` past the end.
-abbrev pub blank : Card
-blank = record { reads = 0; writes = 0; first = 0; last = 0 }
 
 module _ (card : ℕ → Card) where
   length-cards : (k : ℕ) → length (map card (positions k)) ≡ k
@@ -43,6 +41,23 @@ module _ (card : ℕ → Card) where
       ∙ (set-at front (getD records k blank) (drop (suc k) records) (card k) k (length-cards k)
       ∙ (sym (append-snoc front (card k) (drop (suc k) records))
       ∙ ap (λ (z : List Card). z ++ drop (suc k) records) (sym (ap (map card) (positions-snoc k) ∙ map-snoc card (positions k) k))))
+
+  -- Record by record.
+  pub with-at : (k : ℕ) (records : List Card) → k ≤ length records → (l : ℕ) → l < k → getD (withCards card k records) l blank ≡ card l
+  with-at zero records room l h = absurd (omega arith)
+  with-at (suc k) records room l h =
+      let long = with-length k records (omega arith) in
+      rw (← with-more k records (omega arith))
+      (either (last-or-below l k h)
+      (λ e. rw e (getD-set-same (withCards card k records) k (card k) blank (omega arith)))
+      (λ i.
+      getD-set-other (withCards card k records) k l (card k) blank (omega arith) ∙ with-at k records (omega arith) l i))
+
+  pub with-past : (k : ℕ) (records : List Card) → k ≤ length records → (l : ℕ) → k ≤ l → getD (withCards card k records) l blank ≡ getD records l blank
+  with-past zero records room l h = ap (λ (z : List Card). getD z l blank) (with-none records)
+  with-past (suc k) records room l h =
+      rw (← with-more k records (omega arith))
+      (getD-set-other (withCards card k records) k l (card k) blank (omega arith) ∙ with-past k records (omega arith) l (omega arith))
 
 -- Cards that are the same.
 module _ (card card′ : ℕ → Card) where

@@ -2,7 +2,7 @@
 -- every length of every slice. Assumes nothing.
 use Prim.Native.Nat.{ℕ}
 use mathlib.Core.Bool.{Bool, _&&_}
-use mathlib.Core.List.{List, _++_, map}
+use mathlib.Core.List.{List, [], _∷_, _++_, map}
 use mathlib.Core.Option.{Option, none, some}
 use lib.Dec.{eqb, ltb}
 use lib.ListN.{length, drop}
@@ -44,6 +44,10 @@ cardOf tr n l =
     }
 
 -- ---- the lent records
+
+-- A record in memory: these four numbers of 16 bits, one behind the other, as `include/racejudge.h` has them.
+abbrev pub laidOut : Card → List ℕ
+laidOut c = c .reads ∷ c .writes ∷ c .first ∷ c .last ∷ []
 
 -- The first k records are these cards, and those past them are as they were. It stays shut: at a numeral it is computed card by card.
 unfoldable pub withCards : (ℕ → Card) → ℕ → List Card → List Card

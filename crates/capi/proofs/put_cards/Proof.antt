@@ -59,7 +59,9 @@ use denote.Exit.{yes}
 use Rattle.cards.specs.declared.Card.{Card}
 use Rattle.cards.specs.Cards.{withCards}
 use Rattle.cards.specs.Tally.{cardIn, Tables as TablesOf}
-use Rattle.cards.proofs.Records.{blank, with-none, with-more, with-length}
+use Rattle.cards.specs.Demands.{blank}
+use Rattle.cards.proofs.Records.{with-none, with-more, with-length}
+use Rattle.cards.proofs.LaidOut.{CARD-BYTES}
 use Rattle.cards.proofs.Card as T
 use Rattle.cards.proofs.Card.Laws as T′
 use Rattle.cards.proofs.card_of as card-of
@@ -71,10 +73,6 @@ use Rattle.capi.proofs.put_cards as f
 use Rattle.capi.proofs.put_cards.Statement as stated
 use Rattle.capi.proofs.put_cards.Code as code
 use Rattle.capi.proofs.put_cards.Code.Mir as body
-
--- The size of a record.
-abbrev CARD-BYTES : ℕ
-CARD-BYTES = 8
 
 -- ---- numbers
 one-more : (i : ℕ) → i + 1 ≡ suc i

@@ -376,7 +376,8 @@ module _ {M : Type 1} (𝓤 : URA M) (H : Heap 𝓤) (A : Atoms 𝓤) (W : Given
           ),
         ),
       ) (tt, (tt, (tt, (len₃, (len₄, (len₅, (len₆, (tt, tt))))))))) $
-      claims ! (both 𝓤 (stated 𝓤 (promised .0)) (both 𝓤 (stated 𝓤 (promised .1 .0)) (both 𝓤 (stated 𝓤 (promised .1 .1 .0)) (stated 𝓤 (promised .1 .1 .1))))) $
+      claims ! (both 𝓤 (stated 𝓤 (promised .0)) (both 𝓤 (stated 𝓤 (promised .1 .0)) (both 𝓤 (stated 𝓤 (promised .1 .1 .0))
+      (both 𝓤 (stated 𝓤 (promised .1 .1 .1 .0)) (stated 𝓤 (promised .1 .1 .1 .1)))))) $
       nothing ! $ move ! (1 ∷ 2 ∷ 3 ∷ 4 ∷ 5 ∷ 6 ∷ 7 ∷ 8 ∷ 0 ∷ []) $ group ! 9 $ frame ! $ nothing ! $ move ! (1 ∷ 2 ∷ 3 ∷ 4 ∷ 5 ∷ 6 ∷ 7 ∷ 8 ∷ 0 ∷ []) $
       group ! 9 $ frame ! $ done !
     where
