@@ -1,0 +1,72 @@
+// The C functions as a caller sees them, by the places of their parameters: contracts go by names, and would not tell two that are exchanged. Each call is
+// written from `include/racejudge.h`. `racejudge_judge_cards` takes structs, which no function here can lend: the C and Rust tests call it.
+use test_outcome::all_agree;
+use test_outcome::make_outcome;
+use test_outcome::with;
+
+const CELLS: usize = 12292;
+
+// Document 01's example: 0 fork 1, 1 write 5, 1 halt, 0 read 5. "race 1 3", with the orders 0 1 3 2 and 0 3 1 2.
+fn judge_agrees() -> bool {
+    let kinds = [2u8, 1, 4, 0];
+    let tasks = [0u16, 1, 1, 0];
+    let operands = [1u16, 5, 0, 5];
+    let mut ws = [9u16; CELLS];
+    let mut first = [9u16; 4];
+    let mut second = [9u16; 4];
+    let mut values = [9u64; 2];
+    let code = capi::racejudge_judge(
+        &kinds,
+        &tasks,
+        &operands,
+        &mut ws,
+        &mut first,
+        &mut second,
+        &mut values,
+    );
+    let told = (code == 1) & (values[0] == 1) & (values[1] == 3);
+    told & (first[1] == 1) & (first[2] == 3) & (second[1] == 3) & (second[2] == 1)
+}
+
+// What the ordering call returns for p and q.
+fn order(p: usize, q: usize) -> u64 {
+    let kinds = [2u8, 1, 4, 0];
+    let tasks = [0u16, 1, 1, 0];
+    let operands = [1u16, 5, 0, 5];
+    let mut ws = [9u16; CELLS];
+    let mut values = [9u64; 2];
+    capi::racejudge_ordering(&kinds, &tasks, &operands, &mut ws, p, q, &mut values)
+}
+
+// The fork reaches the read, and not the other way round.
+fn ordering_agrees() -> bool {
+    (order(0, 3) == 1) & (order(3, 0) == 0)
+}
+
+// The first two events of the example's text.
+fn translate_agrees() -> bool {
+    let mut kinds = [9u8; 2048];
+    let mut tasks = [9u16; 2048];
+    let mut operands = [9u16; 2048];
+    let mut values = [9u64; 2];
+    let code = capi::racejudge_translate(
+        b"T0|fork(T1)|10\nT1|w(V5)|20\n",
+        &mut kinds,
+        &mut tasks,
+        &mut operands,
+        &mut values,
+    );
+    let told = (code == 0) & (values[0] == 2) & (values[1] == 0);
+    let first = (kinds[0] == 2) & (tasks[0] == 0) & (operands[0] == 1);
+    let second = (kinds[1] == 1) & (tasks[1] == 1) & (operands[1] == 5);
+    told & first & second
+}
+
+fn main() {
+    let one = with(make_outcome(0, true), judge_agrees());
+    let two = with(one, ordering_agrees());
+    all_agree(
+        b"C functions by the places of their parameters: ",
+        with(two, translate_agrees()),
+    );
+}
