@@ -1,5 +1,7 @@
 //! Builds the peers in C that the programs link: the two judges, under the names `twoorders_*` and
-//! `unionfind_*`, the pass for cards and the floor. Without the feature `linked` nothing is built.
+//! `unionfind_*`, the pass for cards and the floor. Where RACEJUDGE_BEFORE names an archive of an
+//! older judge, that is linked too, under the names `before_*`. Without the feature `linked` nothing
+//! is built.
 //!
 //! Each function's section is set to start at a multiple of 64 bytes, as `start` does for the judge
 //! that is measured: then what else a program holds does not move the hot loops, and times repeat
@@ -13,9 +15,12 @@ const PEERS: [&str; 4] = ["twoorders", "unionfind", "pass", "floor"];
 const SHARED: [&str; 2] = ["src/peer.h", "src/hints.h"];
 const INCLUDE: &str = "../include";
 const HEADER: &str = "../include/racejudge.h";
+const CALLS: [&str; 4] = ["judge", "judge_cards", "ordering", "translate"];
+const ALIGNED: [&str; 2] = ["--set-section-alignment", ".text*=64"];
 
 fn main() {
     println!("cargo:rerun-if-changed=build.rs");
+    println!("cargo:rustc-check-cfg=cfg(before)");
     if env::var_os("CARGO_FEATURE_LINKED").is_none() {
         return;
     }
@@ -27,6 +32,10 @@ fn main() {
     println!("cargo:rustc-link-search=native={}", out.display());
     for name in PEERS {
         compile(&out, name);
+    }
+    println!("cargo:rerun-if-env-changed=RACEJUDGE_BEFORE");
+    if let Some(archive) = env::var_os("RACEJUDGE_BEFORE").filter(|path| !path.is_empty()) {
+        rename(&out, &PathBuf::from(archive));
     }
 }
 
@@ -42,9 +51,19 @@ fn compile(out: &Path, name: &str) {
         .arg(format!("-DNAME={name}"))
         .args(["-I", INCLUDE, "-c", &source, "-o"])
         .arg(&object));
-    run(Command::new("objcopy").args(["--set-section-alignment", ".text*=64"]).arg(&object));
+    run(Command::new("objcopy").args(ALIGNED).arg(&object));
     run(Command::new("ar").arg("crs").arg(out.join(format!("lib{name}.a"))).arg(&object));
     println!("cargo:rustc-link-lib=static={name}");
+}
+
+/// Links a copy of an archive in which the calls have names of their own.
+fn rename(out: &Path, archive: &Path) {
+    println!("cargo:rerun-if-changed={}", archive.display());
+    let renamed = CALLS.map(|call| format!("--redefine-sym=racejudge_{call}=before_{call}"));
+    let copy = out.join("libbefore.a");
+    run(Command::new("objcopy").args(ALIGNED).args(renamed).arg(archive).arg(copy));
+    println!("cargo:rustc-link-lib=static=before");
+    println!("cargo:rustc-cfg=before");
 }
 
 fn compiler() -> String {

@@ -2,12 +2,15 @@
  * Four calls: racejudge_translate (text to a trace), racejudge_judge, racejudge_judge_cards (the same,
  * with a card for each location), racejudge_ordering.
  *
+ * VERSION 2. Both judges store a third value, `links`: a caller that lent them two cells, for version 1,
+ * lends three. All else is as it was.
+ *
  * Link libcapi.a, which `rt staticlib capi` writes, for x86-64 Linux. It needs only memset of the C
  * library. Every call takes any contents and any lengths: nothing is required of the numbers in the
  * slices. What the language of the caller must see to: each pointer leads to as many cells as its
- * length says (also where the length is 0 it is not null), `values` leads to two and is not null, a
- * pointer to uint16_t, uint64_t or racejudge_card is aligned for it, and no buffer that is written
- * overlaps another slice of the same call.
+ * length says (also where the length is 0 it is not null), `values` leads to as many as the prototype
+ * says and is not null, a pointer to uint16_t, uint64_t or racejudge_card is aligned for it, and no
+ * buffer that is written overlaps another slice of the same call.
  *
  * No call keeps anything between calls: what it answers and leaves depends on what it is lent alone,
  * and threads may call at the same time, each with buffers of its own. racejudge_translate takes some
@@ -28,6 +31,11 @@
  * ARCS lead from each event to the same task's next event, from a fork to the child's first event, and
  * from a task's halt to the join that names it. p REACHES q if p = q or a chain of arcs leads from p to
  * q. Two accesses RACE if they have one location, at least one is a write, and neither reaches the other.
+ *
+ * THE TABLE OF JOINS puts the 1,024 tasks in trees, each task in one of its own at the start. A join
+ * makes one of the joiner's tree and the joined task's: it hangs the top of the smaller, by number of
+ * tasks, under the top of the larger; at equal size the joiner's top stays on top. No link changes
+ * otherwise. From no task to the top of its tree are there more than RACEJUDGE_MAX_LINKS links.
  *
  * THE WORKSPACE has at least RACEJUDGE_WORKSPACE + n cells for n events, with any contents. After the
  * refusals 1 to 4 and 16 it is unchanged. After every other answer its first RACEJUDGE_WORKSPACE + n
@@ -76,7 +84,10 @@ extern "C" {
 /* Kinds of event. */
 enum { RACEJUDGE_READ, RACEJUDGE_WRITE, RACEJUDGE_FORK, RACEJUDGE_JOIN, RACEJUDGE_HALT };
 
+#define RACEJUDGE_VERSION 2
+
 #define RACEJUDGE_MAX_EVENTS 32768
+#define RACEJUDGE_MAX_LINKS 10
 #define RACEJUDGE_WORKSPACE 12288
 
 /* The most events that a text makes: each slice that one is translated to has so many cells at least. */
@@ -104,14 +115,18 @@ enum { RACEJUDGE_TRANSLATED = 0, RACEJUDGE_SHORT = 3 };
 /* What all four return for a refusal. */
 enum { RACEJUDGE_REFUSED = 2 };
 
-/* Judges the whole trace. Returns, and stores in values[0] and values[1]:
- *   RACEJUDGE_CLEAN     0, 0           the rules are kept, and every two accesses that conflict are
+/* Judges the whole trace. Returns, and stores in values[0] to values[2]:
+ *   RACEJUDGE_CLEAN     0, 0, links    the rules are kept, and every two accesses that conflict are
  *                                      ordered
- *   RACEJUDGE_RACE      s, t           t is the first access that races with an earlier one, s the
+ *   RACEJUDGE_RACE      s, t, links    t is the first access that races with an earlier one, s the
  *                                      smallest position that it races with; what follows t is not
  *                                      looked at
- *   RACEJUDGE_REFUSED   number, position
+ *   RACEJUDGE_REFUSED   number, position, 0
  *                                      no two accesses before that event race
+ *
+ * `links` says how long the chains of the table of joins are after the last event that is looked at: the
+ * largest number of links from any task to the top of its tree. After clean that is the end of the trace,
+ * after a race t, however early s is; the joins behind t do not count.
  *
  * The order buffers have at least as many cells as the trace has events. After a race the first t + 1
  * cells of each hold an order of the events 0 to t that keeps every arc: first the other events that
@@ -121,7 +136,7 @@ uint64_t racejudge_judge(const uint8_t *kinds, size_t kinds_len, const uint16_t 
                          size_t tasks_len, const uint16_t *operands, size_t operands_len,
                          uint16_t *workspace, size_t workspace_len, uint16_t *first,
                          size_t first_len, uint16_t *second, size_t second_len,
-                         uint64_t values[2]);
+                         uint64_t values[3]);
 
 /* Judges the whole trace as racejudge_judge does, with the same answer, workspace and order buffers, and
  * makes the cards. These are at least RACEJUDGE_CARDS records, with any contents; fewer are refused by
@@ -131,7 +146,7 @@ uint64_t racejudge_judge_cards(const uint8_t *kinds, size_t kinds_len, const uin
                                size_t tasks_len, const uint16_t *operands, size_t operands_len,
                                uint16_t *workspace, size_t workspace_len, uint16_t *first,
                                size_t first_len, uint16_t *second, size_t second_len,
-                               racejudge_card *cards, size_t cards_len, uint64_t values[2]);
+                               racejudge_card *cards, size_t cards_len, uint64_t values[3]);
 
 /* Does event p reach event q: is p = q, or does a chain of arcs lead from p to q? The whole trace must
  * keep the rules 5 to 12; races do not matter. Returns, and stores in values[0] and values[1]:

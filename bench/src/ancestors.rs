@@ -2,6 +2,7 @@
 //! that reach it, as bits, made from the arcs of document 01's three sentences. Slow and plain.
 
 use crate::cards::cards;
+use crate::joins;
 use crate::line::Line;
 use crate::trace::*;
 
@@ -9,6 +10,8 @@ use crate::trace::*;
 #[derive(Debug)]
 pub struct Outcome<T> {
     pub said: T,
+    /// The judge's number of links; 0 for every other call.
+    pub links: usize,
     /// Cells of the workspace, from the first, that are 0 afterwards; the rest is unchanged.
     pub cleared: usize,
     /// After a race the first t + 1 cells of the two order buffers.
@@ -20,7 +23,7 @@ pub struct Outcome<T> {
 impl<T> Outcome<T> {
     /// A call that a size check refuses leaves all as it was.
     fn untouched(said: T) -> Self {
-        Outcome { said, cleared: 0, orders: None, cards: None }
+        Outcome { said, links: 0, cleared: 0, orders: None, cards: None }
     }
 }
 
@@ -181,7 +184,8 @@ impl Ancestors {
             Answer::Race(s, t) => Some((self.order(s, t, [s, t]), self.order(s, t, [t, s]))),
             _ => None,
         };
-        Outcome { said, cleared: WORKSPACE + trace.len(), orders, cards: None }
+        let links = joins::links(trace, said);
+        Outcome { said, links, cleared: WORKSPACE + trace.len(), orders, cards: None }
     }
 
     /// The whole outcome of the ordering call on a workspace of this length.
@@ -196,7 +200,7 @@ impl Ancestors {
             return Outcome::untouched(Ordering::Refused(row, 0));
         }
         let said = self.ordering_answer(trace, p, q);
-        Outcome { said, cleared: WORKSPACE + trace.len(), orders: None, cards: None }
+        Outcome { cleared: WORKSPACE + trace.len(), ..Outcome::untouched(said) }
     }
 }
 

@@ -15,6 +15,10 @@ racejudge::foreign!(judge fn twoorders_judge);
 racejudge::foreign!(judge fn unionfind_judge);
 racejudge::foreign!(ordering fn twoorders_ordering);
 racejudge::foreign!(ordering fn unionfind_ordering);
+#[cfg(before)]
+racejudge::foreign!(judge fn before_judge);
+#[cfg(before)]
+racejudge::foreign!(ordering fn before_ordering);
 
 extern "C" {
     fn floor_call(
@@ -27,36 +31,35 @@ extern "C" {
     fn pass_call(kinds: *const u8, operands: *const u16, n: usize, cards: *mut Record);
 }
 
-fn told(code: u64, a: usize, b: usize) -> Told {
-    Told { code, values: [a as u64, b as u64] }
+fn told<const VALUES: usize>(code: u64, values: [usize; VALUES]) -> Told<VALUES> {
+    Told { code, values: values.map(|value| value as u64) }
 }
 
-impl From<Answer> for Told {
-    fn from(answer: Answer) -> Self {
-        match answer {
-            Answer::Clean => told(raw::CLEAN, 0, 0),
-            Answer::Race(s, t) => told(raw::RACE, s, t),
-            Answer::Refused(number, position) => told(raw::REFUSED, number, position),
-        }
+/// What a judge tells that has this answer and this number of links.
+pub fn judged(answer: Answer, links: usize) -> Told<3> {
+    match answer {
+        Answer::Clean => told(raw::CLEAN, [0, 0, links]),
+        Answer::Race(s, t) => told(raw::RACE, [s, t, links]),
+        Answer::Refused(number, position) => told(raw::REFUSED, [number, position, links]),
     }
 }
 
-impl From<Ordering> for Told {
+impl From<Ordering> for Told<2> {
     fn from(answer: Ordering) -> Self {
         match answer {
-            Ordering::No => told(raw::NO, 0, 0),
-            Ordering::Yes => told(raw::YES, 0, 0),
-            Ordering::Refused(number, position) => told(raw::REFUSED, number, position),
+            Ordering::No => told(raw::NO, [0, 0]),
+            Ordering::Yes => told(raw::YES, [0, 0]),
+            Ordering::Refused(number, position) => told(raw::REFUSED, [number, position]),
         }
     }
 }
 
-impl From<Translation> for Told {
+impl From<Translation> for Told<2> {
     fn from(answer: Translation) -> Self {
         match answer {
-            Translation::Events(n) => told(raw::TRANSLATED, n, 0),
-            Translation::Refused(number, line) => told(raw::REFUSED, number, line),
-            Translation::Short => told(raw::SHORT, 0, 0),
+            Translation::Events(n) => told(raw::TRANSLATED, [n, 0]),
+            Translation::Refused(number, line) => told(raw::REFUSED, [number, line]),
+            Translation::Short => told(raw::SHORT, [0, 0]),
         }
     }
 }
@@ -67,9 +70,9 @@ impl From<Card> for Record {
     }
 }
 
-impl From<Told> for Answer {
-    fn from(told: Told) -> Self {
-        let [a, b] = told.values.map(|value| value as usize);
+impl From<Told<3>> for Answer {
+    fn from(told: Told<3>) -> Self {
+        let [a, b, _] = told.values.map(|value| value as usize);
         match told.code {
             raw::CLEAN => Answer::Clean,
             raw::RACE => Answer::Race(a, b),
@@ -78,8 +81,8 @@ impl From<Told> for Answer {
     }
 }
 
-impl From<Told> for Ordering {
-    fn from(told: Told) -> Self {
+impl From<Told<2>> for Ordering {
+    fn from(told: Told<2>) -> Self {
         let [number, position] = told.values.map(|value| value as usize);
         match told.code {
             raw::NO => Ordering::No,
@@ -106,6 +109,13 @@ pub const TWO_ORDERS: Judge =
 pub const UNION_FIND: Judge =
     Judge { name: "union-find C", judge: unionfind_judge, ordering: unionfind_ordering };
 
+/// An older judge, where one is linked. Version 1 leaves the third value unset.
+#[cfg(before)]
+pub const BEFORE: Option<Judge> =
+    Some(Judge { name: "judge before", judge: before_judge, ordering: before_ordering });
+#[cfg(not(before))]
+pub const BEFORE: Option<Judge> = None;
+
 /// Safe: the peers in C take any contents and lengths, as the library does.
 impl Judge {
     pub fn judge(
@@ -114,12 +124,12 @@ impl Judge {
         workspace: &mut [u16],
         first: &mut [u16],
         second: &mut [u16],
-    ) -> Told {
+    ) -> Told<3> {
         let Trace { kinds, tasks, operands } = trace;
         unsafe { raw::judge_by(self.judge, kinds, tasks, operands, workspace, first, second) }
     }
 
-    pub fn ordering(&self, trace: &Trace, workspace: &mut [u16], p: usize, q: usize) -> Told {
+    pub fn ordering(&self, trace: &Trace, workspace: &mut [u16], p: usize, q: usize) -> Told<2> {
         let Trace { kinds, tasks, operands } = trace;
         unsafe { raw::ordering_by(self.ordering, kinds, tasks, operands, workspace, p, q) }
     }
@@ -132,7 +142,7 @@ pub fn judge_cards(
     first: &mut [u16],
     second: &mut [u16],
     cards: &mut [Record],
-) -> Told {
+) -> Told<3> {
     let Trace { kinds, tasks, operands } = trace;
     raw::judge_cards(kinds, tasks, operands, workspace, first, second, cards)
 }

@@ -1,9 +1,9 @@
 //! Measures and tests the race judge from outside, over its static library.
 //!
-//! Reading order: `trace` (what goes in and comes out), `line`, `ancestors` and `cards` (the slow
-//! judge, written from document 01 and the owner's sentence alone), `text` (the text form), `ffi`
-//! (the linked judges), `twoorders.c`, `unionfind.c`, `fasttrack` and `pass.c` (the peers), `rng`,
-//! `builder`, `workloads` and `samples` (the traces), `extent` (how near a trace comes to the
+//! Reading order: `trace` (what goes in and comes out), `line`, `ancestors`, `cards` and `joins` (the
+//! slow judge, written from document 01 and the owner's sentences alone), `text` (the text form),
+//! `ffi` (the linked judges), `twoorders.c`, `unionfind.c`, `fasttrack` and `pass.c` (the peers),
+//! `rng`, `builder`, `workloads` and `samples` (the traces), `extent` (how near a trace comes to the
 //! limits), `program` and `words` (input, output and command lines).
 
 pub mod ancestors;
@@ -13,6 +13,7 @@ pub mod extent;
 pub mod fasttrack;
 #[cfg(feature = "linked")]
 pub mod ffi;
+pub mod joins;
 pub mod line;
 pub mod program;
 pub mod rng;

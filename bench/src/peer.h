@@ -52,4 +52,21 @@ static inline uint64_t say(uint64_t *values, uint64_t code, uint64_t a, uint64_t
     return code;
 }
 
+/* The same for the judge, which has a third value. */
+static inline uint64_t say_judged(uint64_t *values, uint64_t code, uint64_t a, uint64_t b,
+                                  uint64_t links)
+{
+    values[2] = links;
+    return say(values, code, a, b);
+}
+
+/* The longest chain of the tree that a join makes, from that of the joiner's and that of the joined
+ * task's tree. The lower of the two gets a link more; `under` is 1 where that is the joiner's. */
+static inline uint32_t joined_chain(uint32_t mine, uint32_t other, uint32_t under)
+{
+    mine += under;
+    other += 1 - under;
+    return mine < other ? other : mine;
+}
+
 #endif

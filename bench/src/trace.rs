@@ -15,6 +15,10 @@ pub const MAX_EVENTS: usize = 32_768;
 /// The workspace has at least this many cells more than the trace has events.
 pub const WORKSPACE: usize = 12_288;
 
+/// In the table of joins trees double along a chain, so from one of 1,024 tasks no more links lead to
+/// its top.
+pub const MAX_LINKS: usize = 10;
+
 /// The first and last position on the card of a location that no event touches.
 pub const NOWHERE: u16 = 65_535;
 

@@ -10,6 +10,9 @@
  * one. Move i opens segment i + 1. The number of a segment is its place in the list, that of an
  * event the number of its segment.
  *
+ * Each tree of the table of joins has one task in the line, and is known by it: how many tasks it
+ * has, and how long its longest chain is.
+ *
  * What is tuned: what an event and the one before it show is tested for many events at once, so
  * that only moves are looked at one by one; neither moves nor accesses are told apart by a branch,
  * which would be guessed wrong too often; a number is looked up where it is needed, and not written
@@ -28,6 +31,9 @@ enum {
     NEXT = 3088,      /* the segment after each, 0 at the end of the list; then each one's number */
     PAUSED = 6160,    /* entries of 2 cells: the running task's ancestors */
     LEFT = 8224,      /* entries of 2 cells: the halted tasks that are not joined */
+    TREE = PAUSED,    /* once the stacks are done with, 2 cells for a task: how many tasks its tree
+                         has beside it, and its longest chain */
+    JOINS = LEFT,     /* likewise, the position of each join */
     MOVES = WORKSPACE /* the position of each move */
 };
 
@@ -345,6 +351,28 @@ __attribute__((noinline)) static size_t report(Trace trace, const uint16_t *ws, 
     return s;
 }
 
+/* The longest chain of the table of joins after the first `moves` moves. */
+static uint32_t links_after(Trace trace, uint16_t *ws, size_t moves)
+{
+    size_t joins = 0;
+    for (size_t i = 0; i < moves; i++) {
+        size_t p = ws[MOVES + i];
+        ws[JOINS + joins] = p;
+        joins += trace.kinds[p] == JOIN;
+    }
+    memset(ws + TREE, 0, 2 * TASKS * sizeof *ws);
+    uint32_t longest = 0;
+    for (size_t i = 0; i < joins; i++) {
+        size_t p = ws[JOINS + i];
+        uint16_t *mine = ws + TREE + 2 * trace.tasks[p], *other = ws + TREE + 2 * trace.operands[p];
+        uint32_t chain = joined_chain(mine[1], other[1], mine[0] < other[0]);
+        mine[0] += other[0] + 1;
+        mine[1] = chain;
+        longest = longest < chain ? chain : longest;
+    }
+    return longest;
+}
+
 /* A race among the events that keep the rules decides; if there is none, a broken rule. */
 static inline uint64_t judge_events(Trace trace, uint16_t *ws, uint16_t *first, uint16_t *second,
                                     uint64_t *values)
@@ -352,23 +380,25 @@ static inline uint64_t judge_events(Trace trace, uint16_t *ws, uint16_t *first, 
     Kept kept = rank(trace, ws);
     number(ws);
     Place race = scan(trace, ws, kept);
-    if (race.at < kept.events)
-        return say(values, RACEJUDGE_RACE, report(trace, ws, first, second, race), race.at);
-    if (kept.row != 0)
-        return say(values, RACEJUDGE_REFUSED, kept.row, kept.events);
-    return say(values, RACEJUDGE_CLEAN, 0, 0);
+    if (race.at == kept.events && kept.row != 0)
+        return say_judged(values, RACEJUDGE_REFUSED, kept.row, kept.events, 0);
+    uint32_t links = links_after(trace, ws, race.segment);
+    if (race.at == kept.events)
+        return say_judged(values, RACEJUDGE_CLEAN, 0, 0, links);
+    return say_judged(values, RACEJUDGE_RACE, report(trace, ws, first, second, race), race.at,
+                      links);
 }
 
 uint64_t EXPORTED(NAME, judge)(const uint8_t *kinds, size_t n, const uint16_t *tasks,
                                size_t tasks_len, const uint16_t *operands, size_t operands_len,
                                uint16_t *ws, size_t ws_len, uint16_t *first, size_t first_len,
-                               uint16_t *second, size_t second_len, uint64_t values[2])
+                               uint16_t *second, size_t second_len, uint64_t values[3])
 {
     uint64_t row = size_row(n, tasks_len, operands_len, ws_len);
     if (row == 0 && (first_len < n || second_len < n))
         row = 4;
     if (row != 0)
-        return say(values, RACEJUDGE_REFUSED, row, 0);
+        return say_judged(values, RACEJUDGE_REFUSED, row, 0, 0);
     uint64_t said = judge_events((Trace){kinds, tasks, operands, n}, ws, first, second, values);
     memset(ws, 0, (WORKSPACE + n) * sizeof *ws);
     return said;

@@ -2,14 +2,16 @@
  * of the proved judge. Its answers and buffers are exactly the same.
  *
  * Two stacks (halted tasks left of the running one; the running task over its paused ancestors), a
- * union-find forest by size with no path compression, a flag at each top (the group is in left),
- * and for each location two tasks: one of the leftmost group with an access (what a write conflicts
- * with) and one of the leftmost group with a write (what a read conflicts with).
+ * union-find forest by size with no path compression, which is the table of joins, a flag at each
+ * top (the group is in left), and for each location two tasks: one of the leftmost group with an
+ * access (what a write conflicts with) and one of the leftmost group with a write (what a read
+ * conflicts with).
  *
  * What is tuned: the two cells of a location lie side by side, are read and written as one word,
  * and name the top of the accessing task's group, so that the next search is short; the flag sits
  * in the top's own link cell; the stacks hold each task's top, so that halt and join search
- * nothing; accesses have a loop of their own; the orders are written in one pass with no branch;
+ * nothing; the longest chain of a tree stands at its top, so that none is climbed for the number of
+ * links; accesses have a loop of their own; the orders are written in one pass with no branch;
  * everything is cleared once at the end.
  *
  * Compiled under the names NAME_judge and NAME_ordering. */
@@ -26,13 +28,14 @@ enum {
     LEFT = 6144,
     LEFT_TOP = 7168,
     LIVE_T = 8192, /* on a race: 1 where the task's group is not in left, before t */
-    LIVE_S = 9216  /* the same before s */
+    LIVE_S = 9216, /* the same before s */
+    CHAIN = 10240  /* at a top: the most links from a task to it */
 };
 enum { IN_LEFT = 0xffff };
 
-/* The depths of the two stacks. */
+/* The depths of the two stacks, and the longest chain. */
 typedef struct {
-    uint32_t active, left;
+    uint32_t active, left, links;
 } Line;
 
 static inline uint32_t pair_at(const uint16_t *ws, uint32_t l)
@@ -64,9 +67,10 @@ static inline Line start(uint16_t *ws)
     memset(ws + SIZE, 0, TASKS * sizeof *ws);
     ws[SIZE] = 1;
     ws[LINK] = 0;
+    ws[CHAIN] = 0;
     ws[ACTIVE] = 0;
     ws[ACTIVE_TOP] = 0;
-    return (Line){1, 0};
+    return (Line){1, 0, 0};
 }
 
 /* Fork, join and halt by the running task: the row that turns it back, or 0. */
@@ -79,6 +83,7 @@ static inline uint32_t fork_task(uint16_t *ws, Line *line, uint32_t child)
         return 10;
     ws[SIZE + child] = 1;
     ws[LINK + child] = 0;
+    ws[CHAIN + child] = 0;
     ws[ACTIVE + line->active] = child;
     ws[ACTIVE_TOP + line->active] = child;
     line->active++;
@@ -93,14 +98,19 @@ static inline uint32_t join_task(uint16_t *ws, Line *line, uint32_t joined)
     uint32_t mine = ws[ACTIVE_TOP + here];
     uint32_t other = ws[LEFT_TOP + --line->left];
     uint32_t sum = ws[SIZE + mine] + ws[SIZE + other];
-    if (ws[SIZE + mine] < ws[SIZE + other]) {
+    uint32_t under = ws[SIZE + mine] < ws[SIZE + other];
+    uint32_t chain = joined_chain(ws[CHAIN + mine], ws[CHAIN + other], under);
+    line->links = line->links < chain ? chain : line->links;
+    if (under) {
         ws[LINK + mine] = other + 1;
         ws[LINK + other] = 0;
         ws[SIZE + other] = sum;
+        ws[CHAIN + other] = chain;
         ws[ACTIVE_TOP + here] = other;
     } else {
         ws[LINK + other] = mine + 1;
         ws[SIZE + mine] = sum;
+        ws[CHAIN + mine] = chain;
     }
     return 0;
 }
@@ -267,24 +277,25 @@ static inline uint64_t judge_events(Trace trace, uint16_t *ws, uint16_t *first, 
         }
         uint32_t row = step(trace, ws, &line, x, i);
         if (UNLIKELY(row != 0))
-            return say(values, RACEJUDGE_REFUSED, row, i);
+            return say_judged(values, RACEJUDGE_REFUSED, row, i, 0);
         if (UNLIKELY(trace.kinds[i] <= WRITE))
-            return say(values, RACEJUDGE_RACE, report(trace, ws, first, second, i), i);
+            return say_judged(values, RACEJUDGE_RACE, report(trace, ws, first, second, i), i,
+                              line.links);
     }
-    return say(values, RACEJUDGE_CLEAN, 0, 0);
+    return say_judged(values, RACEJUDGE_CLEAN, 0, 0, line.links);
 }
 
 uint64_t EXPORTED(NAME, judge)(const uint8_t *kinds, size_t n, const uint16_t *tasks,
                                size_t tasks_len, const uint16_t *operands, size_t operands_len,
                                uint16_t *ws, size_t ws_len, uint16_t *first, size_t first_len,
-                               uint16_t *second, size_t second_len, uint64_t values[2])
+                               uint16_t *second, size_t second_len, uint64_t values[3])
 {
     uint64_t row = size_row(n, tasks_len, operands_len, ws_len);
     if (row == 0 && (first_len < n || second_len < n))
         row = 4;
     if (row != 0)
-        return say(values, RACEJUDGE_REFUSED, row, 0);
-    uint64_t said = say(values, RACEJUDGE_CLEAN, 0, 0);
+        return say_judged(values, RACEJUDGE_REFUSED, row, 0, 0);
+    uint64_t said = say_judged(values, RACEJUDGE_CLEAN, 0, 0, 0);
     if (n != 0)
         said = judge_events((Trace){kinds, tasks, operands, n}, ws, first, second, values);
     memset(ws, 0, (WORKSPACE + n) * sizeof *ws);

@@ -38,6 +38,34 @@ pub const WORKLOADS: [Workload; 11] = [
     clean("no events", |_, _| Trace::default()),
 ];
 
+/// Two workloads that differ in who joins whom and when: with as many events of each kind, and with
+/// the same accesses by each task, but for which are reads.
+pub struct Pair {
+    pub name: &'static str,
+    /// With chains of 10 links for 32,768 events.
+    pub long: Make,
+    /// With chains of 1.
+    pub short: Make,
+}
+
+pub const PAIRS: [Pair; 3] = [
+    Pair {
+        name: "own locations, joined at the end",
+        long: |n, rng| own(n, rng, join_equals),
+        short: |n, rng| own(n, rng, join_late),
+    },
+    Pair {
+        name: "own locations, joined at once",
+        long: |n, rng| own(n, rng, join_equals),
+        short: |n, rng| own(n, rng, join_at_once),
+    },
+    Pair {
+        name: "all locations by task 0, joined at the end",
+        long: |n, rng| swept(n, rng, join_equals),
+        short: |n, rng| swept(n, rng, join_late),
+    },
+];
+
 /// Tasks beside task 0 for a trace of n events: 1,023 for 32,768.
 fn children(n: usize) -> usize {
     n / 32 - 1
@@ -147,49 +175,96 @@ pub fn binomial(n: usize, rng: &mut Rng) -> Trace {
     let sweep = LOCATIONS.min(n / 4);
     let budget = n - 3 * (leaves - 1) - sweep;
     let at_leaf = budget / deep.len();
-    join_equals(&mut b, rng, depth, 0, &owned, at_leaf);
+    join_equals(&mut b, depth, &mut |b, path| touch_own(b, rng, &owned[path], at_leaf));
+    sweep_up_to(&mut b, rng, n);
+    b.trace
+}
+
+/// Touches each of its own locations once, then any of them, so many times in all.
+fn touch_own(b: &mut Builder, rng: &mut Rng, own: &[u16], times: usize) {
+    for i in 0..if own.is_empty() { 0 } else { times } {
+        let l = if i < own.len() { own[i] } else { own[rng.below(own.len())] };
+        b.touch(rng, l);
+    }
+}
+
+/// The running task touches all locations again and again, up to n events.
+fn sweep_up_to(b: &mut Builder, rng: &mut Rng, n: usize) {
     let mut order: Vec<u16> = (0..LOCATIONS as u16).collect();
     rng.shuffle(&mut order);
     let mut next = order.iter().cycle();
     while b.trace.len() < n {
         b.touch(rng, *next.next().expect("a cycle has no end"));
     }
-    b.trace
 }
 
-/// The running task and its children down to `depth` join groups of equal size. Those that own
-/// locations touch them, `at_leaf` times in all. The first to act, at path 2^depth - 1, ends
-/// `depth` links below the top.
-pub fn join_equals(
-    b: &mut Builder,
-    rng: &mut Rng,
-    depth: u32,
-    path: usize,
-    owned: &[Vec<u16>],
-    at_leaf: usize,
-) {
+/// What each of 2^depth tasks does, from its path on: below 2^depth, and 0 for the task that runs.
+pub type Work<'a> = &'a mut dyn FnMut(&mut Builder, usize);
+
+/// The running task and 2^depth - 1 more do their work and join groups of equal size. The first to
+/// act, at path 2^depth - 1, ends `depth` links below the top, which is the running task's.
+pub fn join_equals(b: &mut Builder, depth: u32, work: Work) {
+    halve_group(b, depth, 0, work, Builder::join);
+}
+
+/// Forks a task for one half of the group, does the other, then what is to be done with the halted
+/// task, down to one task each.
+fn halve_group(b: &mut Builder, depth: u32, path: usize, work: Work, then: fn(&mut Builder)) {
     if depth == 0 {
-        let mine = &owned[path];
-        for i in 0..if mine.is_empty() { 0 } else { at_leaf } {
-            // Each of its locations once, then any.
-            let l = if i < mine.len() { mine[i] } else { mine[rng.below(mine.len())] };
-            b.touch(rng, l);
-        }
-        return;
+        return work(b, path);
     }
     b.fork();
-    join_equals(b, rng, depth - 1, 2 * path + 1, owned, at_leaf);
+    halve_group(b, depth - 1, 2 * path + 1, work, then);
     b.halt();
-    join_equals(b, rng, depth - 1, 2 * path, owned, at_leaf);
-    b.join();
+    halve_group(b, depth - 1, 2 * path, work, then);
+    then(b);
 }
 
 /// A child makes such a group of 2^depth tasks, itself among them, and the running task joins it.
-fn join_group(b: &mut Builder, rng: &mut Rng, depth: u32, owned: &[Vec<u16>], at_leaf: usize) {
+pub fn join_group(b: &mut Builder, depth: u32, work: Work) {
     b.fork();
-    join_equals(b, rng, depth, 0, owned, at_leaf);
+    join_equals(b, depth, work);
     b.halt();
     b.join();
+}
+
+/// The same forks, work and halts, but task 0 joins all at the end: each hangs under it.
+fn join_late(b: &mut Builder, depth: u32, work: Work) {
+    halve_group(b, depth, 0, work, |_| {});
+    b.join_all();
+}
+
+/// The same work in the same order, but task 0 forks each task itself, and joins it at once.
+fn join_at_once(b: &mut Builder, depth: u32, work: Work) {
+    for path in (1..1 << depth).rev() {
+        b.fork();
+        work(b, path);
+        b.halt();
+        b.join();
+    }
+    work(b, 0);
+}
+
+/// What 2^depth tasks do that work and are joined in the end.
+type Joins = fn(&mut Builder, u32, Work);
+
+/// Each task touches a location of its own, nearly all the time.
+fn own(n: usize, rng: &mut Rng, joins: Joins) -> Trace {
+    let tasks = children(n) + 1;
+    joined(n, rng, joins, (n - 3 * tasks) / tasks)
+}
+
+/// Each task touches a location of its own once. The rest is task 0's, which has joined all.
+fn swept(n: usize, rng: &mut Rng, joins: Joins) -> Trace {
+    joined(n, rng, joins, 1)
+}
+
+fn joined(n: usize, rng: &mut Rng, joins: Joins, each: usize) -> Trace {
+    let mut b = Builder::default();
+    let depth = (children(n) + 1).ilog2();
+    joins(&mut b, depth, &mut |b, path| touch_own(b, rng, &[path as u16], each));
+    sweep_up_to(&mut b, rng, n);
+    b.trace
 }
 
 /// Task 0 joins groups of 2, 4, .., 256, each greater than its own, so that it ends 8 links below
@@ -200,7 +275,7 @@ fn deep_task(n: usize, rng: &mut Rng) -> Trace {
     let mut b = Builder::default();
     let deep = (children(n) + 1).ilog2() - 1;
     for power in 1..deep {
-        join_group(&mut b, rng, power, &vec![Vec::new(); 1 << power], 0);
+        join_group(&mut b, power, &mut |_, _| {});
     }
     let locations = LOCATIONS.min(n / 8);
     for l in 0..locations {
@@ -236,11 +311,12 @@ pub fn regrown(n: usize, rng: &mut Rng) -> Trace {
     let tasks = 1usize << depth;
     let each = (n / TIMES - 3 * tasks) / 2;
     let mut places: Vec<u16> = (0..LOCATIONS as u16).collect();
-    let mut owned = vec![Vec::new(); tasks];
     for _ in 0..TIMES {
         rng.shuffle(&mut places);
-        owned[tasks - 1] = places[..each].to_vec();
-        join_group(&mut b, rng, depth, &owned, each);
+        join_group(&mut b, depth, &mut |b, path| {
+            let own = if path == tasks - 1 { &places[..each] } else { &[] };
+            touch_own(b, rng, own, each);
+        });
         rng.shuffle(&mut places[..each]);
         for &l in &places[..each] {
             b.touch(rng, l);

@@ -1,8 +1,10 @@
 /* Judges a trace of 15 events with cards, in which two children read a table at location 3 and leave
- * a result each at 7 and 8, and prints the two locations that are touched most:
+ * a result each at 7 and 8, and prints the two locations that are touched most and how long the
+ * chains of joins are:
  *
  *     location 3: reads 3, writes 1, first at event 0, last at event 7
  *     location 7: reads 2, writes 1, first at event 4, last at event 14
+ *     links in the longest chain of joins: 1
  *
  * `examples/c/run` builds and runs it. */
 
@@ -60,11 +62,12 @@ static void print_busiest(void)
 
 int main(void)
 {
-    uint64_t values[2];
+    uint64_t values[3];
     switch (racejudge_judge_cards(kinds, EVENTS, tasks, EVENTS, operands, EVENTS, workspace, CELLS,
                                   first, EVENTS, second, EVENTS, cards, RACEJUDGE_CARDS, values)) {
     case RACEJUDGE_CLEAN:
         print_busiest();
+        printf("links in the longest chain of joins: %" PRIu64 "\n", values[2]);
         break;
     case RACEJUDGE_RACE:
         printf("race %" PRIu64 " %" PRIu64 ", no cards\n", values[0], values[1]);

@@ -37,7 +37,7 @@ static void print_order(const uint16_t *order, uint64_t count)
 
 int main(void)
 {
-    uint64_t values[2];
+    uint64_t values[3];
     uint64_t said = racejudge_judge(kinds, EVENTS, tasks, EVENTS, operands, EVENTS, workspace, CELLS,
                                     first, EVENTS, second, EVENTS, values);
     switch (said) {

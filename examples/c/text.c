@@ -26,7 +26,7 @@ static int written(int status)
     return status;
 }
 
-static int refused(const uint64_t values[2])
+static int refused(const uint64_t *values)
 {
     printf("refused %" PRIu64 " %" PRIu64 "\n", values[0], values[1]);
     return written(2);
@@ -39,7 +39,7 @@ int main(void)
         perror("text: standard input");
         return 3;
     }
-    uint64_t values[2];
+    uint64_t values[3];
     if (racejudge_translate(text, length, kinds, EVENTS, tasks, EVENTS, operands, EVENTS, values)
         != RACEJUDGE_TRANSLATED)
         return refused(values);

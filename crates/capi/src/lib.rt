@@ -1,13 +1,13 @@
 // The C interface: the calls under their names in C, for C and Rust programs to link. Each slice is a pointer and a length there. A call returns a code and stores
-// two values (`told`); `include/racejudge.h` has the prototypes. The functions that take records are walked by hand: a straight line of calls, and one loop.
+// two values, the judge three (`told`); `include/racejudge.h` has the prototypes. The functions that take records are walked by hand: a straight line of calls, and one loop.
 ghost use mathlib.Core.Path.{_≡_};
 ghost use Prim.Native.Nat.{_≤_};
 ghost use lib.ListN.{length};
 ghost use Rattle.trace.specs.Lent.{lentTrace};
 ghost use Rattle.trace.specs.Outcome.{judgeOutcome, orderingOutcome};
 ghost use Rattle.trace.specs.Slices.{slices};
-ghost use Rattle.trace.specs.Demands.{JudgeDemand1, JudgeDemand2, JudgeDemand3};
-ghost use Rattle.told.specs.Codes.{heard, judgeCall, judgeSeen, orderingCall, orderingSeen, translateCall, translateSeen, TranslateTells};
+ghost use Rattle.trace.specs.Demands.{JudgeDemand1, JudgeDemand2, JudgeDemand3, JudgeLinks};
+ghost use Rattle.told.specs.Codes.{heard, heardLinks, judgeCall, judgeSeen, orderingCall, orderingSeen, translateCall, translateSeen, TranslateTells};
 ghost use Rattle.cards.specs.Cards.{withCards, cardsOutcome, cardsCall, cardsSeen};
 ghost use Rattle.cards.specs.Demands.{CardsHeld, CardsDemand1, CardsDemand2};
 ghost use Rattle.cards.specs.Tally.{cardIn, Tables};
@@ -22,7 +22,7 @@ pub extern "C" fn racejudge_judge(
     ws: &mut [u16],
     first: &mut [u16],
     second: &mut [u16],
-    values: &mut [u64; 2],
+    values: &mut [u64; 3],
 ) -> u64
     ensures outcome { λ r. ⌜ judgeSeen r (now (values .exit)) (now (ws .exit)) (now (first .exit)) (now (second .exit))
         ≡ judgeCall (judgeOutcome (now (kinds .entry)) (now (tasks .entry)) (now (operands .entry))
@@ -34,6 +34,8 @@ pub extern "C" fn racejudge_judge(
         (now (ws .entry)) (now (first .entry)) (now (second .entry)) (heard r (now (values .exit))) ⌝ }
     ensures demand3 { λ r. ⌜ JudgeDemand3 (now (kinds .entry)) (now (tasks .entry)) (now (operands .entry))
         (heard r (now (values .exit))) (now (first .entry)) (now (second .entry)) (now (first .exit)) (now (second .exit)) ⌝ }
+    ensures chains { λ r. ⌜ JudgeLinks (now (kinds .entry)) (now (tasks .entry)) (now (operands .entry))
+        (heard r (now (values .exit))) (heardLinks (now (values .exit))) ⌝ }
 {
     told::judge(kinds, tasks, operands, ws, first, second, values)
 }
@@ -94,7 +96,7 @@ pub extern "C" fn racejudge_judge_cards(
     first: &mut [u16],
     second: &mut [u16],
     cards: &mut [Card],
-    values: &mut [u64; 2],
+    values: &mut [u64; 3],
 ) -> u64
     ensures outcome { λ r. ⌜ cardsSeen r (now (values .exit)) (now (ws .exit)) (now (first .exit)) (now (second .exit)) (now (cards .exit))
         ≡ cardsCall (cardsOutcome (now (kinds .entry)) (now (tasks .entry)) (now (operands .entry))
@@ -108,6 +110,8 @@ pub extern "C" fn racejudge_judge_cards(
         (now (ws .entry)) (now (first .entry)) (now (second .entry)) (now (cards .entry)) (heard r (now (values .exit))) ⌝ }
     ensures demand3 { λ r. ⌜ JudgeDemand3 (now (kinds .entry)) (now (tasks .entry)) (now (operands .entry))
         (heard r (now (values .exit))) (now (first .entry)) (now (second .entry)) (now (first .exit)) (now (second .exit)) ⌝ }
+    ensures chains { λ r. ⌜ JudgeLinks (now (kinds .entry)) (now (tasks .entry)) (now (operands .entry))
+        (heard r (now (values .exit))) (heardLinks (now (values .exit))) ⌝ }
 {
     let records = cards.len();
     let code = cards::judge_counted(kinds, tasks, operands, ws, first, second, records, values);

@@ -22,20 +22,20 @@ use Rattle.sizes.proofs.Sizing.{buffers-pass}
 use Rattle.told.specs.Codes.{Told, judgeTold, judgeCall, judgeSeen}
 use Rattle.told.proofs.Heard.{seen-said, seen-workspace, seen-first, seen-second}
 use Rattle.cards.specs.Cards.{cardRoom, cardSizes, judgedWith}
-use Rattle.cards.specs.Tally.{TALLY-CELLS, Tallied, untasked, Tallyable, LeftAfter, Counted}
+use Rattle.cards.specs.Tally.{Tallied, untasked, Tallyable, LeftAfter, Counted}
 
 -- ---- answers and what is left
 
 -- Clean is the answer that has the code 0.
-pub told-zero : (reply : Reply Verdict) → judgeTold reply .code ≡ 0 → reply ≡ says clean
+pub told-zero : (reply : Reply Verdict) (links : ℕ) → judgeTold reply links .code ≡ 0 → reply ≡ says clean
 unfolding judgeTold
-told-zero (says clean) e = refl
-told-zero (says (race s t)) e = absurd (omega arith)
-told-zero (refused number position) e = absurd (omega arith)
+told-zero (says clean) links e = refl
+told-zero (says (race s t)) links e = absurd (omega arith)
+told-zero (refused number position) links e = absurd (omega arith)
 
-pub told-clean-code : judgeTold (says clean) .code ≡ 0
+told-clean-code : (links : ℕ) → judgeTold (says clean) links .code ≡ 0
 unfolding judgeTold
-told-clean-code = refl
+told-clean-code links = refl
 
 -- After any other the cells are those that are asked for.
 left-other : (reply : Reply Verdict) → reply ≢ says clean → (kinds operands : List ℕ) (records : ℕ) (w c : List ℕ) → c ≡ w
@@ -72,7 +72,7 @@ module _ (kinds tasks operands workspace first second : List ℕ) (records : ℕ
 
   module _ (few : Bool) (e : few ≡ (ltb records LOCATIONS && eqb (rowOf checks) 0)) where
     -- `judge_counted` refuses by row 16:
-    pub counted-few : few ≡ true → Counted kinds operands records o (judgeSeen 2 (16 ∷ 0 ∷ []) workspace first second)
+    pub counted-few : few ≡ true → Counted kinds operands records o (judgeSeen 2 (16 ∷ 0 ∷ 0 ∷ []) workspace first second)
     unfolding judgedWith judgeChecked judgeTold
     counted-few f =
         let both = test-and _ _ (test-lt records LOCATIONS) (test-eq (rowOf checks) 0) .0 (sym e ∙ f) in
@@ -90,16 +90,16 @@ module _ (kinds tasks operands workspace first second : List ℕ) (records : ℕ
           omega arith
 
       module _ (code : ℕ) (values w a b : List ℕ) (seen : judgeSeen code values w a b ≡ judgeCall judged) where
-        code-is : code ≡ judgeTold (judged .answer) .code
+        code-is : code ≡ judgeTold (judged .answer) (judged .links) .code
         code-is = ap (λ (t : Told). t .code) (seen-said judged seen)
 
         answer-clean : code ≡ 0 → judged .answer ≡ says clean
-        answer-clean zero = told-zero (judged .answer) (sym code-is ∙ zero)
+        answer-clean zero = told-zero (judged .answer) (judged .links) (sym code-is ∙ zero)
 
         -- Any answer but clean is the call's.
         pub counted-other : code ≢ 0 → Counted kinds operands records o (judgeSeen code values w a b)
         counted-other nonzero =
-            let other : judged .answer ≢ says clean = λ q. nonzero (code-is ∙ (ap (λ (r : Reply Verdict). judgeTold r .code) q ∙ told-clean-code)) in
+            let other : judged .answer ≢ says clean = λ q. nonzero (code-is ∙ (ap (λ (r : Reply Verdict). judgeTold r (judged .links) .code) q ∙ told-clean-code (judged .links))) in
             rw (judged-same enough)
             (record {
               said = seen-said judged seen;

@@ -6,19 +6,20 @@ use mathlib.Core.Logic.{_⊎_, inl, inr}
 use native.Mathlib.Omega.{arith}
 use lib.ListN.{length}
 use Rattle.trace.specs.Trace.{traceOf, LOCATIONS}
-use Rattle.trace.specs.Line.{Checked, passes, fails}
-use Rattle.trace.specs.Outcome.{says, refused, clean, sizes, orderRoom, Outcome, judgeChecked, judgeOutcome}
-use Rattle.trace.specs.Demands.{JudgeDemand1, JudgeDemand3}
+use Rattle.trace.specs.Line.{Checked, passes}
+use Rattle.trace.specs.Outcome.{says, refused, clean, sizes, orderRoom, Outcome, judgeChecked}
+use Rattle.trace.specs.Demands.{JudgeDemand3, JudgeLinks}
+use Rattle.chains.proofs.Reported.{links-checked}
 use Rattle.trace.proofs.Tests.{either, lt-or-le}
 use Rattle.trace.proofs.Lines.{by-check, passes-not-fails}
 use Rattle.trace.proofs.Sizes.{sized-first, refused-not-says, says-sized}
 use Rattle.trace.proofs.Demand1.{judge-demand-1}
 use Rattle.trace.proofs.Demand2.{demand-2-checked}
 use Rattle.trace.proofs.Demand3.{demand-3-checked}
-use Rattle.told.specs.Codes.{heard, judgeCall, judgeSeen}
-use Rattle.told.proofs.Heard.{seen-heard, seen-workspace, seen-first, seen-second}
+use Rattle.told.specs.Codes.{heard, heardLinks, judgeCall, judgeSeen}
+use Rattle.told.proofs.Heard.{seen-heard, seen-links, seen-workspace, seen-first, seen-second}
 use Rattle.cards.specs.declared.Card.{Card}
-use Rattle.cards.specs.Cards.{cardsAfter, cardRoom, cardSizes, judgedWith, CardsCall, cardsOutcome, cardsCall, cardsSeen}
+use Rattle.cards.specs.Cards.{cardsAfter, cardSizes, judgedWith, CardsCall, cardsOutcome, cardsCall, cardsSeen}
 use Rattle.cards.specs.Demands.{CardsHeld, FewRecords, CardsDemand1, few-records, as-judged, CardsDemand2}
 use Rattle.cards.proofs.Meaning.{cards-held}
 use Rattle.cards.proofs.Counting.{few-sizes, same-sizes, judged-same}
@@ -85,12 +86,19 @@ module _ (kinds tasks operands workspace first second : List ℕ) (cards : List 
   cards-demand-2 =
       record { past-sizes = λ n e. demand-2-checked kinds tasks operands workspace first second (cardSizes kinds tasks operands workspace first second (length cards)) n e }
 
+  whole : (n : ℕ) → cardSizes kinds tasks operands workspace first second (length cards) ≡ passes n → length kinds ≡ n
+  whole n e = sized-first kinds tasks operands workspace first second n (sizes-passed n e) .of-kinds
+
   -- DEMAND 3.
   cards-demand-3 : JudgeDemand3 kinds tasks operands (o .answer) first second (o .first) (o .second)
   unfolding judgedWith
   cards-demand-3 =
-      demand-3-checked kinds tasks operands workspace first second (cardSizes kinds tasks operands workspace first second (length cards))
-      (λ n e. sized-first kinds tasks operands workspace first second n (sizes-passed n e) .of-kinds)
+      demand-3-checked kinds tasks operands workspace first second (cardSizes kinds tasks operands workspace first second (length cards)) whole
+
+  -- The number of links beside the answer.
+  cards-links : JudgeLinks kinds tasks operands (o .answer) (o .links)
+  unfolding judgedWith
+  cards-links = links-checked kinds tasks operands workspace first second (cardSizes kinds tasks operands workspace first second (length cards)) whole
 
 module _ (kinds tasks operands workspace first second : List ℕ) (cards : List Card) (code : ℕ) (values w a b : List ℕ) (records : List Card) where
   -- What the judge with cards promises a C caller.
@@ -100,7 +108,8 @@ module _ (kinds tasks operands workspace first second : List ℕ) (cards : List 
       × (CardsHeld (traceOf kinds tasks operands) (length kinds) (heard code values) cards records
       × (CardsDemand1 kinds tasks operands workspace first second cards (heard code values) w a b
       × (CardsDemand2 kinds tasks operands workspace first second cards (heard code values)
-      × JudgeDemand3 kinds tasks operands (heard code values) first second a b)))
+      × (JudgeDemand3 kinds tasks operands (heard code values) first second a b
+      × JudgeLinks kinds tasks operands (heard code values) (heardLinks values)))))
 
   pub promised : cardsSeen code values w a b records ≡ cardsCall (cardsOutcome kinds tasks operands workspace first second cards) → CardsPromised
   unfolding cardsCall cardsOutcome
@@ -109,11 +118,14 @@ module _ (kinds tasks operands workspace first second : List ℕ) (cards : List 
       let seen : judgeSeen code values w a b ≡ judgeCall o = ap (λ (c : CardsCall). c .call) e in
       let held : records ≡ cardsAfter (o .answer) (traceOf kinds tasks operands) (length kinds) cards = ap (λ (c : CardsCall). c .cards) e in (
         e,
-        rw (seen-heard o seen, seen-workspace o seen, seen-first o seen, seen-second o seen, held) (
+        rw (seen-heard o seen, seen-links o seen, seen-workspace o seen, seen-first o seen, seen-second o seen, held) (
           cards-held (traceOf kinds tasks operands) (length kinds) (o .answer) cards (clean-enough kinds tasks operands workspace first second cards),
           (
             cards-demand-1 kinds tasks operands workspace first second cards,
-            (cards-demand-2 kinds tasks operands workspace first second cards, cards-demand-3 kinds tasks operands workspace first second cards),
+            (
+              cards-demand-2 kinds tasks operands workspace first second cards,
+              (cards-demand-3 kinds tasks operands workspace first second cards, cards-links kinds tasks operands workspace first second cards),
+            ),
           ),
         ),
       )

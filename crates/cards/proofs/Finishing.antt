@@ -1,17 +1,17 @@
 -- The call with the records themselves: what is due fits (`call-fits`), and once the cards are stored and the tables wiped the call has its outcome and keeps the
 -- demands (`call-done`). The walk of the C function rests on these two. Assumes nothing.
-use Prim.Native.Nat.{ℕ, _≤_, _<_}
-use mathlib.Core.Path.{_≡_, refl, sym, ap, subst, _∙_}
+use Prim.Native.Nat.{ℕ, _≤_}
+use mathlib.Core.Path.{_≡_, refl, sym, ap, _∙_}
 use mathlib.Core.List.{List}
 use native.Mathlib.Omega.{arith}
-use lib.ListN.{length, getD}
+use lib.ListN.{length}
 use lib.Seq.{ext-getD}
 use Rattle.trace.specs.Trace.{Trace, traceOf, LOCATIONS}
 use Rattle.trace.specs.Outcome.{Reply, says, refused, Verdict, clean, race, Outcome}
 use Rattle.trace.proofs.Tests.{either, lt-or-le}
 use Rattle.cells.specs.Cells.{zeroed}
 use Rattle.cells.proofs.Zeroed.{zeroed-length, zeroed-below, zeroed-beyond}
-use Rattle.told.specs.Codes.{Told, judgeTold, JudgeCall, judgeCall, judgeSeen}
+use Rattle.told.specs.Codes.{Told, judgeTold, judgeCall, judgeSeen}
 use Rattle.cards.specs.declared.Card.{Card}
 use Rattle.cards.specs.Cards.{cardOf, withCards, cardsAfter, judgedWith, cardsOutcome, cardsCall, cardsSeen}
 use Rattle.cards.specs.Tally.{TALLY-CELLS, TablesFilled, LeftAfter, Counted, cardIn, dueAfter, Tables, wiped}
@@ -69,12 +69,12 @@ module _ (kinds tasks operands w c : List ℕ) (cards : List Card) where
         records = ap (λ (m : ℕ). withCards (cardIn c) m cards) e ∙ (with-none (cardIn c) cards ∙ kept);
       }
 
-  finished : (reply : Reply Verdict) (code : ℕ) → code ≡ judgeTold reply .code → LeftAfter reply kinds operands (length cards) w c
+  finished : (reply : Reply Verdict) (links code : ℕ) → code ≡ judgeTold reply links .code → LeftAfter reply kinds operands (length cards) w c
       → Finished reply (dueAfter code)
   unfolding judgeTold cardsAfter
-  finished (says clean) code e left = finished-clean (dueAfter code) (sym (due-clean code e)) left
-  finished (says (race s t)) code e left = finished-none _ (dueAfter code) (sym (due-other code (omega arith))) left refl
-  finished (refused number position) code e left = finished-none _ (dueAfter code) (sym (due-other code (omega arith))) left refl
+  finished (says clean) links code e left = finished-clean (dueAfter code) (sym (due-clean code e)) left
+  finished (says (race s t)) links code e left = finished-none _ (dueAfter code) (sym (due-other code (omega arith))) left refl
+  finished (refused number position) links code e left = finished-none _ (dueAfter code) (sym (due-other code (omega arith))) left refl
 
 -- ---- the call
 
@@ -84,7 +84,7 @@ module _ (kinds tasks operands workspace first second : List ℕ) (cards : List 
   o = judgedWith kinds tasks operands workspace first second (length cards)
 
   end : Finished kinds tasks operands (o .workspace) c cards (o .answer) (dueAfter code)
-  end = finished kinds tasks operands (o .workspace) c cards (o .answer) code (ap (λ (t : Told). t .code) (h .said)) (h .cells)
+  end = finished kinds tasks operands (o .workspace) c cards (o .answer) (o .links) code (ap (λ (t : Told). t .code) (h .said)) (h .cells)
 
   module _ (k : ℕ) (e : k ≡ dueAfter code) where
     -- What `put_cards` and `wipe` ask for.

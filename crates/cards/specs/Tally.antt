@@ -97,7 +97,7 @@ LeftAfter (refused number position) kinds operands records w c = c ≡ w
 
 -- What `judge_counted` tells and leaves for so many records, where this outcome is asked for: the outcome, but for the tables.
 pub record Counted (kinds operands : List ℕ) (records : ℕ) (o : Outcome) (call : JudgeCall) : Type 0 where
-  pub said : call .said ≡ judgeTold (o .answer)
+  pub said : call .said ≡ judgeTold (o .answer) (o .links)
   pub of-first : call .first ≡ o .first
   pub of-second : call .second ≡ o .second
   pub cells : LeftAfter (o .answer) kinds operands records (o .workspace) (call .workspace)

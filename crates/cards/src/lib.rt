@@ -117,14 +117,14 @@ pub fn judge_counted(
     first: &mut [u16],
     second: &mut [u16],
     records: usize,
-    values: &mut [u64; 2],
+    values: &mut [u64; 3],
 ) -> u64
     ensures { λ r. ⌜ Counted (now (kinds .entry)) (now (operands .entry)) records
         (judgedWith (now (kinds .entry)) (now (tasks .entry)) (now (operands .entry)) (now (ws .entry)) (now (first .entry)) (now (second .entry)) records)
         (judgeSeen r (now (values .exit)) (now (ws .exit)) (now (first .exit)) (now (second .exit))) ⌝ }
 {
     if has_few(kinds, tasks, operands, ws, first, second, records) {
-        *values = [FEW_RECORDS, 0];
+        *values = [FEW_RECORDS, 0, 0];
         return told::REFUSED;
     }
     let code = told::judge(kinds, tasks, operands, ws, first, second, values);

@@ -8,7 +8,7 @@ use lib.Seq.{getD-set-other, getD-drop, ext-getD}
 use Rattle.trace.specs.Trace.{WORKSPACE-CELLS}
 use Rattle.trace.specs.Outcome.{cleared}
 use Rattle.trace.proofs.Sizes.{Sized}
-use Rattle.cells.specs.Cells.{zeroed, Rest}
+use Rattle.cells.specs.Cells.{zeroed, SameFrom, Rest}
 use Rattle.cells.proofs.Zeroed.{zeroed-cleared}
 
 pub rest-refl : (n : ℕ) (c : List ℕ) → Rest n c c
@@ -19,6 +19,13 @@ rest-eq n c d e = record { long = ap length e; same = λ i h. rw e }
 
 pub rest-trans : {n : ℕ} {c d e : List ℕ} → Rest n c d → Rest n d e → Rest n c e
 rest-trans r s = record { long = s .long ∙ r .long; same = λ i h. s .same i h ∙ r .same i h }
+
+-- The same of the cells from a base on.
+pub same-from-refl : (base : ℕ) (c : List ℕ) → SameFrom base c c
+same-from-refl base c = record { long = refl; same = λ i h. refl }
+
+pub same-from-trans : {base : ℕ} {c d e : List ℕ} → SameFrom base c d → SameFrom base d e → SameFrom base c e
+same-from-trans r s = record { long = s .long ∙ r .long; same = λ i h. s .same i h ∙ r .same i h }
 
 -- A store below them.
 pub rest-set : {n : ℕ} {c d : List ℕ} (i v : ℕ) → i < WORKSPACE-CELLS + n → Rest n c d → Rest n c (set d i v)

@@ -1,6 +1,6 @@
 // Cells of the one workspace that callers lend: twelve tables of 1,024 cells, then one cell for each event. Table k starts at cell k * 1,024.
 ghost use mathlib.Core.Path.{_≡_};
-ghost use Prim.Native.Nat.{_+_, _≤_, _<_};
+ghost use Prim.Native.Nat.{max, _+_, _≤_, _<_};
 ghost use lib.ListN.{length, getD, set};
 ghost use Rattle.cells.specs.Cells.{zeroed, NUMBER, numberIn};
 
@@ -33,6 +33,12 @@ pub fn put(ws: &mut [u16], base: usize, i: u16, v: u16)
     ensures { λ _. ⌜ now (ws .exit) ≡ set (now (ws .entry)) (base + i) v ⌝ }
 {
     ws[base + i as usize] = v;
+}
+
+pub fn larger(x: u16, y: u16) -> u16
+    ensures { λ r. ⌜ r ≡ max x y ⌝ }
+{
+    if x < y { y } else { x }
 }
 
 // The number of event p.

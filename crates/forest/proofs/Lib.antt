@@ -1,9 +1,10 @@
--- Laws that belong to no one function. Crates above use Chains (`chain-few`), Tops, Start, Merged, United and Frame.
+-- Laws that belong to no one function: of tables (Merged, Tops, Hung, Unions, Same), of the joins of a trace (Joins, whose `few-links` is the bound), and of the
+-- cells that hold a table (Cells, Climb).
 pub mod Merged
-pub mod Chains
 pub mod Tops
-pub mod Start
-pub mod Attached
-pub mod United
-pub mod Frame
+pub mod Hung
+pub mod Unions
+pub mod Same
+pub mod Joins
+pub mod Cells
 pub mod Climb

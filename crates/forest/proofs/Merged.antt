@@ -1,13 +1,17 @@
--- Laws of `merged`: which tops change where two trees are made one, and which become equal. Assumes nothing.
+-- Which tops change where two trees are made one, and which become equal. Assumes nothing.
 use Prim.Native.Nat.{ℕ, _+_}
 use mathlib.Core.Path.{_≡_, refl, sym, ap, _∙_}
+use mathlib.Core.Bool.{cond, _||_}
 use mathlib.Core.Logic.{_≢_, _⊎_, inl, inr, _↔_}
 use native.Mathlib.Omega.{arith}
 use borrow.Author.Tests.{eq-eqb, ne-eqb}
 use lib.Dec.{eqb}
 use Rattle.trace.proofs.Tests.{either, same-or-not}
 use Rattle.trace.specs.Search.{bit}
-use Rattle.forest.specs.Forest.{merged}
+
+-- A top h after the trees of a and b are made one, of which the top is s: s where h is a or b, else h.
+unfoldable pub merged : ℕ → ℕ → ℕ → ℕ → ℕ
+merged a b s h = cond (eqb h a || eqb h b) s h
 
 -- h is one of the two.
 abbrev pub OneOf : ℕ → ℕ → ℕ → Type 0

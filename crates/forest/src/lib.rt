@@ -1,15 +1,19 @@
-// A union-find forest of tasks, in the first two tables of a workspace: the table of joins that document 02 asks for (K2). No call uses it yet.
-// The definitions in `specs/` say what a forest is and what each function leaves; the laws in `proofs/` say what that means for tops.
+// The table of joins (document 02, K2) in the first two tables of a workspace: a forest of the tasks, the search for a task's top, and the join of two trees.
+// The definitions in `specs/` say what a forest is and what each function leaves; the laws in `proofs/` say what that means for the table.
 ghost use mathlib.Core.Path.{_≡_};
 ghost use Prim.Native.Nat.{_+_, _<_};
 ghost use Rattle.trace.specs.Trace.{TASKS};
-ghost use Rattle.forest.specs.Forest.{Forest, Found, Attachable, attached, Unitable, UnionResult};
+ghost use Rattle.forest.specs.Tables.{Found};
+ghost use Rattle.forest.specs.Forest.{parents, ForestIn, Hangable, hungIn, Unitable, unitedIn, Joinable, Joined};
 
 // Table 0, the links: 0 where a task is a top, else its parent + 1.
-pub const LINK: usize = 0;
+const LINK: usize = 0;
 
 // Table 1, the sizes: the number of tasks of a top's tree less one, so that cleared cells are trees of one task.
-pub const SIZE: usize = 1024;
+const SIZE: usize = 1024;
+
+// The cells of both.
+pub const FOREST_CELLS: usize = 2048;
 
 // The top of a task's tree, and the number of links between the two.
 pub struct Top {
@@ -19,9 +23,9 @@ pub struct Top {
 
 // Follows the links from a task to its top. The loop tests the link and nothing else: that it ends, and that 10 links are the most, is in the proof.
 pub fn find(ws: &[u16], task: u16) -> Top
-    requires { ⌜ Forest (now ws) ⌝ }
+    requires { ⌜ ForestIn (now ws) ⌝ }
     requires { ⌜ task < TASKS ⌝ }
-    ensures { λ r. ⌜ Found (now (ws .entry)) task (r .task) (r .links) ⌝ }
+    ensures { λ r. ⌜ Found (parents (now (ws .entry))) task (r .task) (r .links) ⌝ }
 {
     let mut at = task;
     let mut links: u16 = 0;
@@ -35,9 +39,9 @@ pub fn find(ws: &[u16], task: u16) -> Top
 }
 
 // Hangs the top x under the top y, whose tree then has the tasks of both.
-fn attach(ws: &mut [u16], x: u16, y: u16)
-    requires { ⌜ Attachable (now ws) x y ⌝ }
-    ensures { λ _. ⌜ now (ws .exit) ≡ attached (now (ws .entry)) x y ⌝ }
+fn hang(ws: &mut [u16], x: u16, y: u16)
+    requires { ⌜ Hangable (now ws) x y ⌝ }
+    ensures { λ _. ⌜ now (ws .exit) ≡ hungIn (now (ws .entry)) x y ⌝ }
 {
     let sum = cells::cell(ws, SIZE, x) + cells::cell(ws, SIZE, y) + 1;
     cells::put(ws, LINK, x, y + 1);
@@ -45,15 +49,24 @@ fn attach(ws: &mut [u16], x: u16, y: u16)
 }
 
 // Makes one tree of those of a, the joiner's top, and b, the joined task's. The top of the smaller tree goes under the top of the larger, so that
-// links stay few; at equal size a stays. Returns the top that stays.
-pub fn union(ws: &mut [u16], a: u16, b: u16) -> u16
+// links stay few; at equal size a stays.
+fn union(ws: &mut [u16], a: u16, b: u16)
     requires { ⌜ Unitable (now ws) a b ⌝ }
-    ensures { λ r. ⌜ UnionResult (now (ws .entry)) a b (now (ws .exit)) r ⌝ }
+    ensures { λ _. ⌜ now (ws .exit) ≡ unitedIn (now (ws .entry)) a b ⌝ }
 {
     if cells::cell(ws, SIZE, a) < cells::cell(ws, SIZE, b) {
-        attach(ws, a, b);
-        return b;
+        hang(ws, a, b);
+        return;
     }
-    attach(ws, b, a);
-    a
+    hang(ws, b, a);
+}
+
+// Task x joins task v.
+pub fn join(ws: &mut [u16], x: u16, v: u16)
+    requires { ⌜ Joinable (now ws) x v ⌝ }
+    ensures { λ _. ⌜ Joined (now (ws .entry)) x v (now (ws .exit)) ⌝ }
+{
+    let joiner = find(ws, x);
+    let joined = find(ws, v);
+    union(ws, joiner.task, joined.task);
 }

@@ -82,23 +82,23 @@ module _ (count : ℕ) (first second out : List ℕ) where
     render-short h = rw (lt-leb OUTPUT-BYTES (length out) h)
 
     module _ (h : OUTPUT-BYTES ≤ length out) (b : Buffer) where
-      pub render-clean : answer ≡ Clean → b ≡ add (buffer out 0) (CLEAN ++ rest (count ∷ []))
+      pub render-clean : (links : ℕ) → answer ≡ Clean links → b ≡ add (buffer out 0) (CLEAN ++ rest (count ∷ []))
           → b ≡ rendered (judgeReply answer) count first second out
       unfolding judgeReply output
-      render-clean e f = f ∙ rw e (rendered-whole (says clean) h refl)
+      render-clean links e f = f ∙ rw e (rendered-whole (says clean) h refl)
 
       pub render-refused : (x : Refusal) → answer ≡ Refused x → b ≡ add (buffer out 0) (REFUSED ++ rest (x .number ∷ x .position ∷ []))
           → b ≡ rendered (judgeReply answer) count first second out
       unfolding judgeReply output
       render-refused x e f = f ∙ rw e (rendered-whole (refused (x .number) (x .position)) h refl)
 
-      pub render-race : (s t : ℕ) → answer ≡ Race s t → t < MAX-TEXT-EVENTS
+      pub render-race : (s t links : ℕ) → answer ≡ Race s t links → t < MAX-TEXT-EVENTS
           → b ≡ add (buffer out 0) ((RACE ++ rest (s ∷ t ∷ [])) ++ orderLines t first second)
           → b ≡ rendered (judgeReply answer) count first second out
       unfolding judgeReply output
-      render-race s t e k f = f ∙ rw e (rendered-whole (says (race s t)) h (lt-ltb t MAX-TEXT-EVENTS k))
+      render-race s t links e k f = f ∙ rw e (rendered-whole (says (race s t)) h (lt-ltb t MAX-TEXT-EVENTS k))
 
-    pub render-past : OUTPUT-BYTES ≤ length out → (s t : ℕ) → answer ≡ Race s t → MAX-TEXT-EVENTS ≤ t
+    pub render-past : OUTPUT-BYTES ≤ length out → (s t links : ℕ) → answer ≡ Race s t links → MAX-TEXT-EVENTS ≤ t
         → buffer out 0 ≡ rendered (judgeReply answer) count first second out
     unfolding judgeReply rendered
-    render-past h s t e k = rw (e, le-leb OUTPUT-BYTES (length out) h, le-ltb t MAX-TEXT-EVENTS k)
+    render-past h s t links e k = rw (e, le-leb OUTPUT-BYTES (length out) h, le-ltb t MAX-TEXT-EVENTS k)

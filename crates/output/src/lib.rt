@@ -10,7 +10,7 @@ ghost use Rattle.output.specs.Output.{buffer, rendered};
 // The size of a buffer that holds every output about a text's trace.
 pub const OUTPUT_BYTES: usize = 86066;
 
-// The program's output for an answer about a trace of `count` events, and the number of its bytes; nothing where the buffer is shorter than
+// The program's output for an answer about a trace of `count` events, and the number of its bytes; the number of links is not printed. Nothing where the buffer is shorter than
 // OUTPUT_BYTES or the race stands past 2,048 events.
 pub fn render(answer: Answer, count: usize, first: &[u16], second: &[u16], out: &mut [u8]) -> usize
     ensures { λ r. ⌜ buffer (now (out .exit)) r ≡ rendered (judgeReply answer) count (now (first .entry)) (now (second .entry)) (now (out .entry)) ⌝ }
@@ -19,8 +19,8 @@ pub fn render(answer: Answer, count: usize, first: &[u16], second: &[u16], out: 
         return 0;
     }
     match answer {
-        Answer::Clean => bytes::put_clean(out, count),
-        Answer::Race(s, t) => {
+        Answer::Clean(_) => bytes::put_clean(out, count),
+        Answer::Race(s, t, _) => {
             if MAX_TEXT_EVENTS <= t {
                 return 0;
             }

@@ -23,7 +23,7 @@ use Rattle.segments.proofs.SegmentFacts.{moves-access, moves-move, segments-acc
 use Rattle.segments.proofs.SegmentCount.{segments-few}
 use Rattle.segments.proofs.SegmentStacks.{stacked, stacked-length, ended-length}
 use Rattle.segments.proofs.SegmentCells.{linkIn, Holding, holding-start, holding-access, holding-move, holding-frame}
-use Rattle.stops.specs.Stops.{isStop, stopsBefore}
+use Rattle.stops.specs.Stops.{isStop, stopsBefore, StopsIn}
 use Rattle.stops.proofs.Counting.{stops-grow, next-stop, no-stop-left}
 use Rattle.line.specs.declared.Line.{Line}
 use Rattle.line.specs.Rules.{ruleOf}
@@ -34,7 +34,7 @@ use Rattle.line.proofs.Moves.{stack-frame, line-frame, free-beyond, start-free}
 use Rattle.line.proofs.EventLaw.{line-start}
 use Rattle.line.proofs.Events.{event-broken, event-unchanged, event-next, event-kind, event-active, event-movable, event-free}
 use Rattle.ranks.specs.Lists.{FORKS, HALTS, NEXT, SEGMENTS, sourceIn, pushedIn, openedIn, Openable}
-use Rattle.ranks.specs.States.{ListAt, Begun, TakeSays, ListSays, StopsIn}
+use Rattle.ranks.specs.States.{ListAt, Begun, TakeSays, ListSays}
 use Rattle.ranks.proofs.Passing.{passed-over}
 use Rattle.ranks.proofs.Opening.{pushed-length, opened-length, opened-line, opened-beyond, pushed-list, Opened, open-fork, open-join, open-halt}
 

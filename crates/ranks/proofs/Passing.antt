@@ -14,7 +14,7 @@ use Rattle.segments.proofs.SegmentFacts.{moves-access, segments-access}
 use Rattle.segments.proofs.SegmentCells.{holding-access}
 use Rattle.cells.specs.Cells.{numberIn}
 use Rattle.stops.specs.Stops.{isStop, stopsBefore}
-use Rattle.stops.proofs.Counting.{stops-below, stops-grow, next-stop, no-stop-left}
+use Rattle.stops.proofs.Counting.{stops-grow, next-stop, no-stop-left}
 use Rattle.stops.proofs.Quiet.{QuietAfter, stop-zero, quiet-event}
 use Rattle.line.specs.declared.Line.{Line}
 use Rattle.line.specs.Cells.{runningIn}
@@ -22,7 +22,7 @@ use Rattle.line.specs.Held.{LineCells, LineAt}
 use Rattle.line.proofs.Moves.{running-is}
 use Rattle.line.proofs.Events.{line-access}
 use Rattle.ranks.specs.Lists.{NEXT}
-use Rattle.ranks.specs.States.{StopsIn, SomeStops, Leading, ListAt}
+use Rattle.ranks.specs.States.{SomeStops, Leading, ListAt}
 
 module _ {tr : Trace} {c : List ℕ} {line : Line} where
   -- After an access its task runs on.
@@ -54,10 +54,6 @@ module _ {tr : Trace} {c : List ℕ} {line : Line} where
   passed-over {g} {i} (suc p) h t quiet =
       either (last-or-below i (suc p) (omega arith)) (λ same. subst (λ (n : ℕ). ListAt tr n c line g) same t)
       (λ l. pass-next p (passed-over p (omega arith) t (λ q low high. quiet q low (omega arith))) (quiet p (omega arith) (omega arith)))
-
--- There is an event for each stop.
-pub stop-inside : {tr : Trace} {n : ℕ} {c : List ℕ} {count k : ℕ} → StopsIn tr n c count → k < count → k < n
-stop-inside {tr} {n} stops h = let all = stops .counted in omega (arith, stops-below (isStop tr) n)
 
 -- ---- the events at the start
 

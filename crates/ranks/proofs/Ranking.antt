@@ -24,10 +24,11 @@ use Rattle.segments.proofs.TwoOrders.{two-orders-graph}
 use Rattle.trace.proofs.Forward.{graph-forward}
 use Rattle.trace.proofs.Paths.{Forward}
 use Rattle.trace.proofs.Numbers.{Numbers, numbers-agree}
-use Rattle.cells.specs.Cells.{Rest, SameBeyond, NUMBER}
-use Rattle.stops.specs.Stops.{isStop, stopsBefore, Collected}
+use Rattle.cells.specs.Cells.{Rest, SameBeyond}
+use Rattle.stops.specs.Stops.{Collected, StopsIn}
+use Rattle.stops.proofs.Standing.{stops-still}
 use Rattle.ranks.specs.Lists.{NEXT, SEGMENTS, Listed}
-use Rattle.ranks.specs.States.{StopsIn, Leading, ListSays, kindsOnly, ownNumber, RankSays}
+use Rattle.ranks.specs.States.{Leading, ListSays, kindsOnly, ownNumber, RankSays}
 
 -- ---- the segments ask for the kinds alone
 
@@ -137,16 +138,6 @@ module _ {tr : Trace} {n events : ℕ} {entry c : List ℕ} {row : ℕ} (says : 
 
 -- ---- the stops
 
-pub stops-in : (tr : Trace) {n count : ℕ} {entry exit : List ℕ} → Collected (isStop tr) n entry exit count → StopsIn tr n exit count
-stops-in tr collected = record { counted = collected .counted; table = collected .table }
-
-pub stops-still : {tr : Trace} {n count : ℕ} {c d : List ℕ} → SameBeyond c d → StopsIn tr n c count → StopsIn tr n d count
-stops-still beyond stops =
-    record {
-      counted = stops .counted;
-      table = λ p h e. beyond .same (NUMBER + stopsBefore (isStop _) p) (omega arith) ∙ stops .table p h e;
-    }
-
 pub stops-rest : {stop : ℕ → Bool} {n count : ℕ} {entry exit : List ℕ} → Collected stop n entry exit count → Rest n entry exit
 stops-rest collected = record { long = collected .long; same = λ i h. collected .same i (inr h) }
 
@@ -161,8 +152,19 @@ module _ (kinds tasks operands : List ℕ) {n events : ℕ} {entry b c d : List 
   room-c : WORKSPACE-CELLS ≤ length c
   room-c = let long = says .beyond .long in let first = collected .long in omega arith
 
+  -- The walk changes no cell past the tables, so the list of the stops stands.
+  walked-rest : SameBeyond c d
+  walked-rest =
+      record {
+        long = ap length walk ∙ walked-long says room-c;
+        same = λ i h. ap (λ (w : List ℕ). getD w i 0) walk ∙ walked-beyond says room-c i (omega arith);
+      }
+
+  pub stops-stand : {count : ℕ} → StopsIn tr n b count → StopsIn tr n d count
+  stops-stand stops = stops-still walked-rest (stops-still (says .beyond) stops)
+
   long : length d ≡ length entry
-  long = ap length walk ∙ (walked-long says room-c ∙ (says .beyond .long ∙ collected .long))
+  long = walked-rest .long ∙ (says .beyond .long ∙ collected .long)
 
   -- Each segment's number tells its events' paths.
   pub ranked : RankSays kinds tr n entry d events row
@@ -190,8 +192,6 @@ module _ (kinds tasks operands : List ℕ) {n events : ℕ} {entry b c d : List 
         rest =
             record {
               long = long;
-              same = λ i h.
-                  ap (λ (w : List ℕ). getD w i 0) walk
-                  ∙ (walked-beyond says room-c i (omega arith) ∙ (says .beyond .same i (omega arith) ∙ collected .same i h));
+              same = λ i h. walked-rest .same i (omega arith) ∙ (says .beyond .same i (omega arith) ∙ collected .same i h);
             };
       }

@@ -12,9 +12,9 @@ use Rattle.trace.specs.Graph.{graphEvents}
 use Rattle.trace.specs.Demands.{KeepsRules, BreaksFirst}
 use Rattle.segments.specs.Segments.{moves, segment, segments}
 use Rattle.trace.proofs.Numbers.{Numbers}
-use Rattle.cells.specs.Cells.{Filled, Rest, SameBeyond, NUMBER, numberIn}
+use Rattle.cells.specs.Cells.{Filled, Rest, SameBeyond, NUMBER}
 use Rattle.segments.proofs.SegmentCells.{Holding}
-use Rattle.stops.specs.Stops.{isStop, stopsBefore}
+use Rattle.stops.specs.Stops.{StopsIn}
 use Rattle.line.specs.declared.Line.{Line}
 use Rattle.line.specs.Rules.{ruleOf}
 use Rattle.line.specs.Steps.{afterIn, Movable}
@@ -31,12 +31,7 @@ pub record ListAt (tr : Trace) (n : ℕ) (c : List ℕ) (line : Line) (g : ℕ) 
   pub forks : StackAt c FORKS (segments tr n .forks)
   pub halts : StackAt c HALTS (segments tr n .halts)
 
--- From NUMBER on stand the positions of the stops among the n events, `count` in all.
-pub record StopsIn (tr : Trace) (n : ℕ) (c : List ℕ) (count : ℕ) : Type 0 where
-  pub counted : count ≡ stopsBefore (isStop tr) n
-  pub table : (p : ℕ) → p < n → isStop tr p ≡ true → numberIn c (stopsBefore (isStop tr) p) ≡ p
-
--- The same of some tasks and operands: what a function asks that is not given them.
+-- The list of the stops of some tasks and operands: what a function asks that is not given them.
 pub record SomeStops (kinds c : List ℕ) (count : ℕ) : Type 0 where
   pub tasks : List ℕ
   pub operands : List ℕ

@@ -12,7 +12,8 @@ ghost use Rattle.segments.proofs.SegmentCells.{linkIn, rankIn};
 ghost use Rattle.cells.specs.Cells.{NUMBER};
 ghost use Rattle.line.specs.declared.Line.{Line};
 ghost use Rattle.ranks.specs.Lists.{NEXT, SEGMENTS, sourceIn, ownIn, Readable, pushedIn, openedIn, Openable, Listed};
-ghost use Rattle.ranks.specs.States.{StopsIn, SomeStops, Leading, Begun, ListAt, TakeSays, ListSays};
+ghost use Rattle.stops.specs.Stops.{StopsIn};
+ghost use Rattle.ranks.specs.States.{SomeStops, Leading, Begun, ListAt, TakeSays, ListSays};
 ghost use Rattle.ranks.specs.States.{kindsOnly, ownNumber, Spread, SegmentsIn, RankSays};
 use line::Line;
 use trace::FORK;
@@ -37,11 +38,12 @@ pub struct Kept {
     pub row: usize,
 }
 
-// The same, and how many of these events, at the start, are accesses before any move: their number is 0.
+// The same; how many of these events, at the start, are accesses before any move, so that their number is 0; and how many stops the trace has.
 pub struct Ranked {
     pub events: usize,
     pub row: usize,
     pub leading: usize,
+    pub stops: usize,
 }
 
 // The segment that a move puts the next one after, where `current` is the open one.
@@ -270,20 +272,22 @@ pub fn open_number(ws: &[u16], current: u16) -> u16
     cells::cell(ws, NEXT, current)
 }
 
-// The rules over the whole trace, and the number of each segment: its place in the second order.
+// The rules over the whole trace, and the number of each segment: its place in the second order. The list of the stops stands.
 pub fn rank(kinds: &[u8], tasks: &[u16], operands: &[u16], ws: &mut [u16]) -> Ranked
     requires { ⌜ Sized (now kinds) (now tasks) (now operands) (now ws) (length (now kinds)) ⌝ }
     ensures { λ r. ⌜ RankSays (now (kinds .entry)) (lentTrace (kinds .entry) (tasks .entry) (operands .entry)) (length (now (kinds .entry)))
         (now (ws .entry)) (now (ws .exit)) (r .events) (r .row) ⌝ }
     ensures { λ r. ⌜ (r .leading ≤ r .events) × Leading (now (kinds .entry)) (r .leading) ⌝ }
+    ensures { λ r. ⌜ StopsIn (lentTrace (kinds .entry) (tasks .entry) (operands .entry)) (length (now (kinds .entry))) (now (ws .exit)) (r .stops) ⌝ }
 {
-    let count = stops::collect(kinds, tasks, operands, ws);
-    let kept = list_segments(kinds, tasks, operands, ws, count);
-    let leading = leading(kinds, ws, count, kept.events);
+    let stops = stops::collect(kinds, tasks, operands, ws);
+    let kept = list_segments(kinds, tasks, operands, ws, stops);
+    let leading = leading(kinds, ws, stops, kept.events);
     number(ws);
     Ranked {
         events: kept.events,
         row: kept.row,
         leading,
+        stops,
     }
 }

@@ -2,7 +2,7 @@
 // its number is smaller. So the largest number of those that an access conflicts with decides, and for each location and kind of access that is one cell.
 ghost use mathlib.Core.Path.{_≡_};
 ghost use mathlib.Core.Bool.{true};
-ghost use Prim.Native.Nat.{max, _≤_};
+ghost use Prim.Native.Nat.{_≤_};
 ghost use Rattle.trace.specs.Trace.{isAccess};
 ghost use Rattle.cells.specs.Cells.{SameFrom};
 ghost use Rattle.ranks.specs.States.{ownNumber};
@@ -43,18 +43,12 @@ fn held_against(ws: &[u16], kind: u8, location: u16) -> u16
     cells::cell(ws, table_of(kind), location)
 }
 
-fn larger(x: u16, y: u16) -> u16
-    ensures { λ r. ⌜ r ≡ max x y ⌝ }
-{
-    if x < y { y } else { x }
-}
-
 // An access with number x that passed is one of those that later ones are held against.
 fn keep(ws: &mut [u16], kind: u8, location: u16, x: u16)
     requires { ⌜ Testable (now ws) kind location ⌝ }
     ensures { λ _. ⌜ now (ws .exit) ≡ keptIn (now (ws .entry)) kind location x ⌝ }
 {
-    let largest = larger(cells::cell(ws, TOUCHED, location), x);
+    let largest = cells::larger(cells::cell(ws, TOUCHED, location), x);
     cells::put(ws, TOUCHED, location, largest);
     cells::put(ws, also_kept(kind), location, largest);
 }

@@ -2,3 +2,4 @@
 pub mod Counting
 pub mod Quiet
 pub mod Collecting
+pub mod Standing

@@ -36,6 +36,11 @@ pub record Collected (stop : ℕ → Bool) (n : ℕ) (entry exit : List ℕ) (co
   pub long : length exit ≡ length entry
   pub same : (i : ℕ) → (i < NUMBER) ⊎ (NUMBER + n ≤ i) → getD exit i 0 ≡ getD entry i 0
 
+-- From NUMBER on stand the positions of the stops among the n events of a trace, `count` in all.
+pub record StopsIn (tr : Trace) (n : ℕ) (c : List ℕ) (count : ℕ) : Type 0 where
+  pub counted : count ≡ stopsBefore (isStop tr) n
+  pub table : (p : ℕ) → p < n → isStop tr p ≡ true → numberIn c (stopsBefore (isStop tr) p) ≡ p
+
 -- The first n events are marked, each by 0 or 1.
 abbrev pub Marks : ℕ → List ℕ → Type 0
 Marks n c = (p : ℕ) → p < n → numberIn c p ≤ 1

@@ -1,4 +1,5 @@
-// The runs that document 01 tells, as a table: each trace with its answer, and with both orders where they are told.
+// The runs that document 01 tells, as a table: each trace with its answer and its links, and with both orders where they are told. Document 01 tells no links:
+// they are drawn by hand from document 02's K2.
 use crate::REFUSED;
 use crate::Reply;
 use crate::make_reply;
@@ -8,71 +9,80 @@ use test_cells::get_word;
 use test_cells::more;
 use test_cells::plus;
 
-// Of each run: how many events, how many cells of each order are told, the answer with its two numbers; then the events, and then the two orders. Answers
-// how many cells the table has, as read_table does.
+// How many cells stand before the events of a run.
+pub const HEAD: usize = 6;
+
+// Of each run: how many events, how many cells of each order are told, the answer with its two numbers and the links; then the events, and then the two orders.
+// Answers how many cells the table has, as read_table does.
 pub fn read_runs(cells: &mut [u16]) -> usize {
     read_table(
         b"
 # no events
-0 0 CLEAN 0 0
+0 0 CLEAN 0 0 0
 # '0 write 1023', and with 1024
-1 0 CLEAN 0 0: 0 write 1023
-1 0 REFUSED 8 0: 0 write 1024
+1 0 CLEAN 0 0 0: 0 write 1023
+1 0 REFUSED 8 0 0: 0 write 1024
 # '0 fork 1023', '0 fork 1024'
-1 0 CLEAN 0 0: 0 fork 1023
-1 0 REFUSED 9 0: 0 fork 1024
+1 0 CLEAN 0 0 0: 0 fork 1023
+1 0 REFUSED 9 0 0: 0 fork 1024
 # two unordered reads; Last event '0 write 5'
-4 0 CLEAN 0 0: 0 fork 1, 1 read 5, 1 halt 0, 0 read 5
-4 0 RACE 1 3: 0 fork 1, 1 read 5, 1 halt 0, 0 write 5
+4 0 CLEAN 0 0 0: 0 fork 1, 1 read 5, 1 halt 0, 0 read 5
+4 0 RACE 1 3 0: 0 fork 1, 1 read 5, 1 halt 0, 0 write 5
 # two writes before an unordered read
-5 5 RACE 1 4: 0 fork 1, 1 write 5, 1 write 5, 1 halt 0, 0 read 5; 0 1 4 2 3; 0 4 1 2 3
+5 5 RACE 1 4 0: 0 fork 1, 1 write 5, 1 write 5, 1 halt 0, 0 read 5; 0 1 4 2 3; 0 4 1 2 3
 # joins in the wrong order, and in the right one
-5 0 REFUSED 11 4: 0 fork 1, 1 halt 0, 0 fork 2, 2 halt 0, 0 join 1
-6 0 CLEAN 0 0: 0 fork 1, 1 halt 0, 0 fork 2, 2 halt 0, 0 join 2, 0 join 1
+5 0 REFUSED 11 4 0: 0 fork 1, 1 halt 0, 0 fork 2, 2 halt 0, 0 join 1
+6 0 CLEAN 0 0 1: 0 fork 1, 1 halt 0, 0 fork 2, 2 halt 0, 0 join 2, 0 join 1
 # a task joins one that it did not fork, and with '0 join 2' before the write
-8 8 RACE 1 7: 0 fork 1, 1 read 7, 1 halt 0, 0 read 7, 0 fork 2, 2 join 1, 2 halt 0, 0 write 7; 0 3 4 1 7 2 5 6; 0 3 4 7 1 2 5 6
-9 0 CLEAN 0 0: 0 fork 1, 1 read 7, 1 halt 0, 0 read 7, 0 fork 2, 2 join 1, 2 halt 0, 0 join 2, 0 write 7
+8 8 RACE 1 7 1: 0 fork 1, 1 read 7, 1 halt 0, 0 read 7, 0 fork 2, 2 join 1, 2 halt 0, 0 write 7; 0 3 4 1 7 2 5 6; 0 3 4 7 1 2 5 6
+9 0 CLEAN 0 0 1: 0 fork 1, 1 read 7, 1 halt 0, 0 read 7, 0 fork 2, 2 join 1, 2 halt 0, 0 join 2, 0 write 7
 # '0 halt', then kind 5
-2 0 REFUSED 5 1: 0 halt 0, 0 5 0
+2 0 REFUSED 5 1 0: 0 halt 0, 0 5 0
 # the examples of rows 5 to 12
-1 0 REFUSED 5 0: 0 5 0
-2 0 REFUSED 6 1: 0 halt 0, 0 read 1
-1 0 REFUSED 7 0: 1 read 0
-1 0 REFUSED 10 0: 0 fork 0
-1 0 REFUSED 11 0: 0 join 1
-1 0 REFUSED 12 0: 0 halt 3
+1 0 REFUSED 5 0 0: 0 5 0
+2 0 REFUSED 6 1 0: 0 halt 0, 0 read 1
+1 0 REFUSED 7 0 0: 1 read 0
+1 0 REFUSED 10 0 0: 0 fork 0
+1 0 REFUSED 11 0 0: 0 join 1
+1 0 REFUSED 12 0 0: 0 halt 3
 # row 6 before row 7, row 7 before row 8, a number used before, the largest kind, a task that is no task
-2 0 REFUSED 6 1: 0 halt 0, 1 read 0
-1 0 REFUSED 7 0: 1 read 1024
-3 0 REFUSED 10 2: 0 fork 1, 1 halt 0, 0 fork 1
-1 0 REFUSED 5 0: 0 255 0
-1 0 REFUSED 7 0: 65535 read 0
+2 0 REFUSED 6 1 0: 0 halt 0, 1 read 0
+1 0 REFUSED 7 0 0: 1 read 1024
+3 0 REFUSED 10 2 0: 0 fork 1, 1 halt 0, 0 fork 1
+1 0 REFUSED 5 0 0: 0 255 0
+1 0 REFUSED 7 0 0: 65535 read 0
 # a trace may end with the halt of task 0
-1 0 CLEAN 0 0: 0 halt 0
+1 0 CLEAN 0 0 0: 0 halt 0
 # later events are not looked at
-5 0 RACE 1 3: 0 fork 1, 1 write 5, 1 halt 0, 0 write 5, 0 5 0
+5 0 RACE 1 3 0: 0 fork 1, 1 write 5, 1 halt 0, 0 write 5, 0 5 0
 # Figure 6 misses a write before an unordered read, the run of the text form
-4 4 RACE 1 3: 0 fork 1, 1 write 5, 1 halt 0, 0 read 5; 0 1 3 2; 0 3 1 2
+4 4 RACE 1 3 0: 0 fork 1, 1 write 5, 1 halt 0, 0 read 5; 0 1 3 2; 0 3 1 2
 # Only the last reader remembered
-8 0 RACE 1 7: 0 fork 1, 1 read 5, 1 halt 0, 0 fork 2, 2 read 5, 2 halt 0, 0 join 2, 0 write 5
+8 0 RACE 1 7 1: 0 fork 1, 1 read 5, 1 halt 0, 0 fork 2, 2 read 5, 2 halt 0, 0 join 2, 0 write 5
 # A paused parent's accesses before the fork taken as unordered with its child's
-3 0 CLEAN 0 0: 0 write 5, 0 fork 1, 1 write 5
-4 0 CLEAN 0 0: 0 write 5, 0 fork 1, 1 read 5, 1 halt 0
-5 0 CLEAN 0 0: 0 read 5, 0 fork 1, 1 fork 2, 2 write 5, 2 halt 0
+3 0 CLEAN 0 0 0: 0 write 5, 0 fork 1, 1 write 5
+4 0 CLEAN 0 0 0: 0 write 5, 0 fork 1, 1 read 5, 1 halt 0
+5 0 CLEAN 0 0 0: 0 read 5, 0 fork 1, 1 fork 2, 2 write 5, 2 halt 0
 # the accesses of two children of one parent
-5 0 RACE 1 4: 0 fork 1, 1 write 5, 1 halt 0, 0 fork 2, 2 read 5
+5 0 RACE 1 4 0: 0 fork 1, 1 write 5, 1 halt 0, 0 fork 2, 2 read 5
 ",
         cells,
     )
 }
 
-// One of these runs, told wrong: the answer, a cell of the first order, a cell of the second.
+// Runs told wrong: the answer, a cell of the first order, a cell of the second; the links of a clean trace and of a race, too many and too few; and links beside
+// a refusal.
 pub fn read_wrong_runs(cells: &mut [u16]) -> usize {
     read_table(
         b"
-5 5 RACE 2 4: 0 fork 1, 1 write 5, 1 write 5, 1 halt 0, 0 read 5; 0 1 4 2 3; 0 4 1 2 3
-5 5 RACE 1 4: 0 fork 1, 1 write 5, 1 write 5, 1 halt 0, 0 read 5; 1 1 4 2 3; 0 4 1 2 3
-5 5 RACE 1 4: 0 fork 1, 1 write 5, 1 write 5, 1 halt 0, 0 read 5; 0 1 4 2 3; 0 4 1 2 4
+5 5 RACE 2 4 0: 0 fork 1, 1 write 5, 1 write 5, 1 halt 0, 0 read 5; 0 1 4 2 3; 0 4 1 2 3
+5 5 RACE 1 4 0: 0 fork 1, 1 write 5, 1 write 5, 1 halt 0, 0 read 5; 1 1 4 2 3; 0 4 1 2 3
+5 5 RACE 1 4 0: 0 fork 1, 1 write 5, 1 write 5, 1 halt 0, 0 read 5; 0 1 4 2 3; 0 4 1 2 4
+6 0 CLEAN 0 0 2: 0 fork 1, 1 halt 0, 0 fork 2, 2 halt 0, 0 join 2, 0 join 1
+6 0 CLEAN 0 0 0: 0 fork 1, 1 halt 0, 0 fork 2, 2 halt 0, 0 join 2, 0 join 1
+8 0 RACE 1 7 0: 0 fork 1, 1 read 5, 1 halt 0, 0 fork 2, 2 read 5, 2 halt 0, 0 join 2, 0 write 5
+8 0 RACE 1 7 2: 0 fork 1, 1 read 5, 1 halt 0, 0 fork 2, 2 read 5, 2 halt 0, 0 join 2, 0 write 5
+5 0 REFUSED 11 4 1: 0 fork 1, 1 halt 0, 0 fork 2, 2 halt 0, 0 join 1
 ",
         cells,
     )
@@ -83,10 +93,11 @@ pub fn told(cells: &[u16], at: usize) -> Reply {
     let verdict = get(cells, plus(at, 2));
     let x = get(cells, plus(at, 3));
     let y = get(cells, plus(at, 4));
+    let links = get(cells, plus(at, 5));
     if verdict == REFUSED {
-        return make_reply(plus(REFUSED, x), y, 0);
+        return make_reply(plus(REFUSED, x), y, 0, links);
     }
-    make_reply(verdict, x, y)
+    make_reply(verdict, x, y, links)
 }
 
 // How many cells n events have.
@@ -96,7 +107,7 @@ pub fn cells_of(n: usize) -> usize {
 
 // Where the orders of the run at a cell stand in the table.
 fn orders_at(cells: &[u16], at: usize) -> usize {
-    plus(at, plus(5, cells_of(get(cells, at))))
+    plus(at, plus(HEAD, cells_of(get(cells, at))))
 }
 
 // How many cells both orders have.

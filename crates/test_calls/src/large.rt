@@ -30,7 +30,10 @@ pub fn judging(want: Reply) -> Call {
 
 // Whether position p reaches the last.
 pub fn asking(p: usize, case: usize) -> Call {
-    wanting(crate::asking(full(), p, 32767, 7), make_reply(case, 0, 0))
+    wanting(
+        crate::asking(full(), p, 32767, 7),
+        make_reply(case, 0, 0, 0),
+    )
 }
 
 pub fn put_one(events: &mut [u16], p: usize, task: usize, kind: usize, operand: usize) {

@@ -1,15 +1,19 @@
 // Rows 1 to 4 of document 01's table, as a table of the lengths of slices.
 use crate::CLEAN;
 use crate::REFUSED;
-use crate::table::CELLS;
+use crate::Reply;
+use crate::make_reply;
 use crate::table::read_table;
+use crate::table::rows;
 use test_cells::get;
 use test_cells::plus;
 use test_slow::Sizes;
 
-// Of each run the lengths of the six slices, and the row by which it is refused, or 0. Answers how many cells the table has, as read_table does.
+const CELLS: usize = 7;
+
+// Of each run the lengths of the six slices, and the row by which it is refused, or 0. Answers how many runs there are, 0 if the cells are too few for them.
 pub fn read_runs(cells: &mut [u16]) -> usize {
-    read_table(
+    let count = read_table(
         b"
 # kinds 2, tasks 3, operands 3, and the like
 2 3 3 12300 3 3: 1
@@ -43,7 +47,8 @@ pub fn read_runs(cells: &mut [u16]) -> usize {
 4 4 4 13000 90 4: 0
 ",
         cells,
-    )
+    );
+    rows(count, CELLS)
 }
 
 fn at(cells: &[u16], run: usize, i: usize) -> usize {
@@ -61,11 +66,9 @@ pub fn lengths(cells: &[u16], run: usize) -> Sizes {
     }
 }
 
-// The case of the answer.
-pub fn told(cells: &[u16], run: usize) -> usize {
+// The judge's answer. All events are reads by task 0, and with no join there are no links.
+pub fn told(cells: &[u16], run: usize) -> Reply {
     let row = at(cells, run, 6);
-    if row == 0 {
-        return CLEAN;
-    }
-    plus(REFUSED, row)
+    let case = if row == 0 { CLEAN } else { plus(REFUSED, row) };
+    make_reply(case, 0, 0, 0)
 }

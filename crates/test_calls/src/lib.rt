@@ -1,5 +1,6 @@
 // The calls of the judge and of the ordering call that the test program makes, and what must come of each. Nothing here calls the fast judge.
 pub mod buffers;
+pub mod chains;
 pub mod drawn;
 pub mod known;
 pub mod large;
@@ -14,11 +15,13 @@ use trace::Answer;
 use trace::Ordering;
 use trace::Refusal;
 
-// An answer in numbers. The case is CLEAN, RACE or REFUSED + number for the judge, and YES, NO or REFUSED + number for the ordering call.
+// An answer in numbers. The case is CLEAN, RACE or REFUSED + number for the judge, and YES, NO or REFUSED + number for the ordering call. The links are 0 where
+// the answer has none.
 pub struct Reply {
     pub case: usize,
     pub a: usize,
     pub b: usize,
+    pub links: usize,
 }
 
 pub const CLEAN: usize = 0;
@@ -31,32 +34,33 @@ pub const NO: usize = 1;
 
 pub const REFUSED: usize = 2;
 
-// Not yet known: the slow judge is to say it.
+// Not yet known: the slow judge is to say it. The links that stand with it are added to its own: so many too many are expected, on purpose.
 pub const UNTOLD: usize = 62;
 
 // The answer, or a cell, is not as it must be.
 pub const MISMATCH: usize = 63;
 
-pub fn make_reply(case: usize, a: usize, b: usize) -> Reply {
-    Reply { case, a, b }
+pub fn make_reply(case: usize, a: usize, b: usize, links: usize) -> Reply {
+    Reply { case, a, b, links }
 }
 
+// "with a refusal, 0"
 fn reply_of_refusal(refusal: Refusal) -> Reply {
-    make_reply(plus(REFUSED, refusal.number), refusal.position, 0)
+    make_reply(plus(REFUSED, refusal.number), refusal.position, 0, 0)
 }
 
 pub fn reply_of_answer(answer: Answer) -> Reply {
     match answer {
-        Answer::Clean => make_reply(CLEAN, 0, 0),
-        Answer::Race(s, t) => make_reply(RACE, s, t),
+        Answer::Clean(links) => make_reply(CLEAN, 0, 0, links),
+        Answer::Race(s, t, links) => make_reply(RACE, s, t, links),
         Answer::Refused(refusal) => reply_of_refusal(refusal),
     }
 }
 
 pub fn reply_of_ordering(ordering: Ordering) -> Reply {
     match ordering {
-        Ordering::Yes => make_reply(YES, 0, 0),
-        Ordering::No => make_reply(NO, 0, 0),
+        Ordering::Yes => make_reply(YES, 0, 0, 0),
+        Ordering::No => make_reply(NO, 0, 0, 0),
         Ordering::Refused(refusal) => reply_of_refusal(refusal),
     }
 }
@@ -68,7 +72,10 @@ pub fn same_reply(x: Reply, y: Reply) -> bool {
     if x.a != y.a {
         return false;
     }
-    x.b == y.b
+    if x.b != y.b {
+        return false;
+    }
+    x.links == y.links
 }
 
 // The reply of a call if it is the wanted one and the cells are as wanted too, else MISMATCH.
@@ -76,7 +83,7 @@ pub fn reply_held(reply: Reply, want: Reply, cells: bool) -> Reply {
     if same_reply(reply, want) & cells {
         return reply;
     }
-    make_reply(MISMATCH, 0, 0)
+    make_reply(MISMATCH, 0, 0, 0)
 }
 
 // A cell of a buffer that is expected wrong, on purpose: the comparison must notice it.
@@ -122,7 +129,7 @@ pub fn judging(sizes: Sizes, salt: usize) -> Call {
         q: 0,
         sizes,
         salt,
-        want: make_reply(UNTOLD, 0, 0),
+        want: make_reply(UNTOLD, 0, 0, 0),
         plant: Plant {
             buffer: NO_BUFFER,
             cell: 0,
@@ -156,6 +163,13 @@ pub fn roomy(n: usize) -> Sizes {
     }
 }
 
+// What must come of a call by the answer of the slow judge: that, but for the links that are planted.
+pub fn wanted_of(answer: Answer, call: Call) -> Reply {
+    let mut reply = reply_of_answer(answer);
+    reply.links = plus(reply.links, call.want.links);
+    reply
+}
+
 // What must come of a call: what is told with it, or else what the slow one answers.
 pub fn wanted(
     kinds: &[u8],
@@ -178,5 +192,8 @@ pub fn wanted(
             memory,
         ));
     }
-    reply_of_answer(test_slow::judge(kinds, tasks, operands, call.sizes, memory))
+    wanted_of(
+        test_slow::judge(kinds, tasks, operands, call.sizes, memory),
+        call,
+    )
 }

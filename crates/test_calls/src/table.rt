@@ -25,9 +25,6 @@ use test_samples::events::JOIN;
 use test_samples::events::READ;
 use test_samples::events::WRITE;
 
-// How many cells a row has in the tables whose rows have all as many.
-pub const CELLS: usize = 7;
-
 // What an unknown word is: more than a cell holds.
 const UNKNOWN: usize = 65536;
 
@@ -157,4 +154,15 @@ pub fn read_table(text: &[u8], cells: &mut [u16]) -> usize {
         i += 1;
     }
     made(close(scan), cells.len())
+}
+
+// How many rows of so many cells a table has, 0 if cells are left over.
+pub fn rows(count: usize, each: usize) -> usize {
+    if each == 0 {
+        return 0;
+    }
+    if count % each != 0 {
+        return 0;
+    }
+    count / each
 }

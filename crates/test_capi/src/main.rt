@@ -4,17 +4,18 @@ use test_outcome::all_agree;
 use test_outcome::make_outcome;
 use test_outcome::with;
 
-const CELLS: usize = 12292;
+const CELLS: usize = 12295;
 
-// Document 01's example: 0 fork 1, 1 write 5, 1 halt, 0 read 5. "race 1 3", with the orders 0 1 3 2 and 0 3 1 2.
+// 0 fork 2, 2 halt, 0 join 2, then document 01's example: 0 fork 1, 1 write 5, 1 halt, 0 read 5. "race 1 3" is race 4 6 behind them, with 1 link, from 2 to 0;
+// the orders end 4 6 5 and 6 4 5.
 fn judge_agrees() -> bool {
-    let kinds = [2u8, 1, 4, 0];
-    let tasks = [0u16, 1, 1, 0];
-    let operands = [1u16, 5, 0, 5];
+    let kinds = [2u8, 4, 3, 2, 1, 4, 0];
+    let tasks = [0u16, 2, 0, 0, 1, 1, 0];
+    let operands = [2u16, 0, 2, 1, 5, 0, 5];
     let mut ws = [9u16; CELLS];
-    let mut first = [9u16; 4];
-    let mut second = [9u16; 4];
-    let mut values = [9u64; 2];
+    let mut first = [9u16; 7];
+    let mut second = [9u16; 7];
+    let mut values = [9u64; 3];
     let code = capi::racejudge_judge(
         &kinds,
         &tasks,
@@ -24,11 +25,11 @@ fn judge_agrees() -> bool {
         &mut second,
         &mut values,
     );
-    let told = (code == 1) & (values[0] == 1) & (values[1] == 3);
-    told & (first[1] == 1) & (first[2] == 3) & (second[1] == 3) & (second[2] == 1)
+    let told = (code == 1) & (values[0] == 4) & (values[1] == 6) & (values[2] == 1);
+    told & (first[4] == 4) & (first[5] == 6) & (second[4] == 6) & (second[5] == 4)
 }
 
-// What the ordering call returns for p and q.
+// What the ordering call returns for p and q of document 01's example.
 fn order(p: usize, q: usize) -> u64 {
     let kinds = [2u8, 1, 4, 0];
     let tasks = [0u16, 1, 1, 0];

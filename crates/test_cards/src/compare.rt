@@ -14,23 +14,23 @@ use test_calls::buffers::holds_zeros;
 use test_calls::buffers::soil;
 use test_calls::make_reply;
 use test_calls::reply_held;
-use test_calls::reply_of_answer;
+use test_calls::wanted_of;
 use test_calls::wanting;
 use test_cells::least;
 use test_cells::plus;
 use test_samples::events::lay;
 use test_slow::judge_cards;
 
-// What a code and the two values tell, or MISMATCH where the cards are not as they must be.
-fn reply_of_code(code: u64, x: usize, y: usize, cards: bool) -> Reply {
+// What a code and the three values tell, the third of which is the links with every code; or MISMATCH where the cards are not as they must be.
+fn reply_of_code(code: u64, x: usize, y: usize, links: usize, cards: bool) -> Reply {
     if !cards {
-        return make_reply(MISMATCH, 0, 0);
+        return make_reply(MISMATCH, 0, 0, 0);
     }
     match code {
-        0 => make_reply(CLEAN, x, y),
-        1 => make_reply(RACE, x, y),
-        2 => make_reply(plus(REFUSED, x), y, 0),
-        _ => make_reply(MISMATCH, 0, 0),
+        0 => make_reply(CLEAN, x, y, links),
+        1 => make_reply(RACE, x, y, links),
+        2 => make_reply(plus(REFUSED, x), y, 0, links),
+        _ => make_reply(MISMATCH, 0, 0, 0),
     }
 }
 
@@ -44,7 +44,7 @@ fn counted(
     call: Call,
     records: usize,
 ) -> Reply {
-    let mut values = [65535u64; 2];
+    let mut values = [65535u64; 3];
     let code = cards::judge_counted(
         kinds,
         tasks,
@@ -58,7 +58,13 @@ fn counted(
     let due = cards::due(code);
     let cards = cards_filled(kinds, operands, ws, due, call);
     wipe(ws, due);
-    reply_of_code(code, values[0] as usize, values[1] as usize, cards)
+    reply_of_code(
+        code,
+        values[0] as usize,
+        values[1] as usize,
+        values[2] as usize,
+        cards,
+    )
 }
 
 // The reply where so many cells are lent.
@@ -145,7 +151,10 @@ fn wanted(
     if call.want.case != UNTOLD {
         return call.want;
     }
-    reply_of_answer(judge_cards(kinds, tasks, operands, call.sizes, records, memory))
+    wanted_of(
+        judge_cards(kinds, tasks, operands, call.sizes, records, memory),
+        call,
+    )
 }
 
 // What the judge with cards itself answers on this trace where so many records are lent, not what it should; or MISMATCH. The slow judge's memory is made here:

@@ -1,6 +1,9 @@
-// The runs that document 01 tells: each is answered as told where there are records enough, with its cards after clean, and else refused by 16.
+// The runs that document 01 tells, and those for the links of document 02's K2: each is answered as told where there are records enough, with its cards after
+// clean, and else refused by 16.
 use crate::lending::all_answer;
+use test_calls::chains;
 use test_calls::judging;
+use test_calls::known::HEAD;
 use test_calls::known::cells_of;
 use test_calls::known::next_run;
 use test_calls::known::read_runs;
@@ -15,7 +18,7 @@ use test_outcome::make_outcome;
 
 fn run_agrees(cells: &[u16], at: usize) -> bool {
     let n = get(cells, at);
-    let from = least(plus(at, 5), cells.len());
+    let from = least(plus(at, HEAD), cells.len());
     let to = from + least(cells_of(n), cells.len() - from);
     all_answer(&cells[from..to], judging(roomy(n), at), told(cells, at))
 }
@@ -40,7 +43,14 @@ fn go_through(cells: &[u16], count: usize) -> Outcome {
 }
 
 pub fn try_all() -> Outcome {
-    let mut cells = [0u16; 512];
+    let mut cells = [0u16; 640];
     let count = read_runs(&mut cells);
+    go_through(&cells, count)
+}
+
+// The short runs for the links.
+pub fn try_chains() -> Outcome {
+    let mut cells = [0u16; 1024];
+    let count = chains::read_runs(&mut cells);
     go_through(&cells, count)
 }

@@ -28,7 +28,7 @@ fn told_with(told: Reply, records: usize) -> Reply {
     if (REFUSED < told.case) & (told.case <= plus(REFUSED, 4)) {
         return told;
     }
-    make_reply(plus(REFUSED, 16), 0, 0)
+    make_reply(plus(REFUSED, 16), 0, 0, 0)
 }
 
 // Whether the call agrees and is answered as told, however many records are lent.

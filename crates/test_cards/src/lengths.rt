@@ -6,18 +6,16 @@ use test_calls::judging;
 use test_calls::lengths::lengths;
 use test_calls::lengths::read_runs;
 use test_calls::lengths::told;
-use test_calls::make_reply;
 use test_outcome::Outcome;
 
 pub fn run_agrees(cells: &[u16], run: usize, events: &[u16]) -> bool {
-    let told = make_reply(told(cells, run), 0, 0);
-    all_answer(events, judging(lengths(cells, run), run), told)
+    all_answer(events, judging(lengths(cells, run), run), told(cells, run))
 }
 
 // Every event is a read of location 0 by task 0.
 pub fn try_all() -> Outcome {
     let mut cells = [0u16; 170];
-    let count = read_runs(&mut cells);
+    let rows = read_runs(&mut cells);
     let reads = [0u16; 3];
-    go_through(&cells, count, Table::Lengths, &reads)
+    go_through(&cells, rows, Table::Lengths, &reads)
 }

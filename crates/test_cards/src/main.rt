@@ -1,5 +1,6 @@
 // The evidence for the cards: the judge with cards against the slow judge, and each card against one that is counted over all events. What it prints is held to
 // the file `stdout`.
+mod chains;
 mod compare;
 mod filled;
 mod known;
@@ -18,14 +19,15 @@ use test_outcome::all_agree;
 use test_outcome::all_noticed;
 use test_outcome::make_outcome;
 use test_outcome::print;
+use test_outcome::print_all;
 
-fn print_refusal(counts: [usize; 20], number: usize) {
+fn print_refusal(counts: [usize; 31], number: usize) {
     io::write_all(STDOUT_FILENO, b"  refused ");
     io::print_decimal(STDOUT_FILENO, number as u64);
     print(b": ", count_at(counts, plus(test_calls::REFUSED, number)));
 }
 
-fn print_refusals(counts: [usize; 20]) {
+fn print_refusals(counts: [usize; 31]) {
     let mut number = 1;
     while number < 17 {
         print_refusal(counts, number);
@@ -33,11 +35,12 @@ fn print_refusals(counts: [usize; 20]) {
     }
 }
 
-fn print_counts(counts: [usize; 20]) {
+fn print_counts(counts: [usize; 31]) {
     print(b"  events in all: ", count_at(counts, random::EVENTS));
     print(b"  numbers of records for each: ", lending::LENDINGS);
     print(b"  clean: ", count_at(counts, test_calls::CLEAN));
     print(b"  race: ", count_at(counts, test_calls::RACE));
+    print_all(b"  links, from 0 to 10:", &counts[random::LINKS..]);
     print_refusals(counts);
 }
 
@@ -56,6 +59,12 @@ fn try_random() {
 
 fn main() {
     if !all_agree(b"runs that document 01 tells: ", known::try_all()) {
+        return;
+    }
+    if !all_agree(b"runs for the links: ", known::try_chains()) {
+        return;
+    }
+    if !all_agree(b"runs with long chains: ", chains::try_all()) {
         return;
     }
     if !all_agree(b"lengths of slices: ", lengths::try_all()) {

@@ -4,14 +4,15 @@ use crate::tables::Table;
 use crate::tables::go_through;
 use test_calls::MISMATCH;
 use test_calls::judging;
+use test_calls::plants::CELLS;
 use test_calls::plants::planted;
-use test_calls::table::CELLS;
 use test_calls::table::read_table;
+use test_calls::table::rows;
 use test_cells::get;
 use test_cells::plus;
 use test_outcome::Outcome;
 
-// The events of all: race 8 10, and clean without the last. Then location 5 is read once and written three times, by events 1 to 8, location 1,023 is read by
+// The events of all: race 8 10, and clean without the last, both with 1 link. Then location 5 is read once and written three times, by events 1 to 8, location 1,023 is read by
 // event 6, and no other is touched.
 fn lay_events(events: &mut [u16]) {
     read_table(
@@ -23,62 +24,69 @@ fn lay_events(events: &mut [u16]) {
     );
 }
 
-// Of each plant: how many of the events; how many records; the answer that is told, or SLOW for what the slow judge says; the buffer and its cell that is
-// expected wrong, or the field of a card and its location. But for one thing all is right. Answers how many cells the table has, as read_table does.
+// Of each plant: how many of the events; how many records; the answer that is told with its two numbers and the links, or SLOW for what the slow judge says,
+// with so many links more; the buffer and its cell that is expected wrong, or the field of a card and its location. But for one thing all is right. Answers how
+// many plants there are, 0 if the cells are too few for them.
 fn read_plants(cells: &mut [u16]) -> usize {
-    read_table(
+    let count = read_table(
         b"
 # the answer is clean, and refused 16 0
-10 1024 CLEAN 1 0 none 0
-10 1024 CLEAN 0 1 none 0
-10 1023 REFUSED 4 0 none 0
-10 1023 REFUSED 16 1 none 0
-10 0 REFUSED 4 0 none 0
+10 1024 CLEAN 1 0 1 none 0
+10 1024 CLEAN 0 1 1 none 0
+10 1023 REFUSED 4 0 0 none 0
+10 1023 REFUSED 16 1 0 none 0
+10 0 REFUSED 4 0 0 none 0
+# the links of clean, of a race and of 16
+10 1024 CLEAN 0 0 0 none 0
+10 1024 CLEAN 0 0 2 none 0
+11 1024 SLOW 0 0 1 none 0
+10 1023 REFUSED 16 0 1 none 0
 # each field of a card, of the first, a middle and the last location; where none touched it, the marker
-10 1024 SLOW 0 0 reads 0
-10 1024 SLOW 0 0 writes 0
-10 1024 SLOW 0 0 earliest 0
-10 1024 SLOW 0 0 latest 0
-10 1024 SLOW 0 0 reads 5
-10 1024 SLOW 0 0 writes 5
-10 1024 SLOW 0 0 earliest 5
-10 1024 SLOW 0 0 latest 5
-10 1024 SLOW 0 0 reads 1023
-10 1024 SLOW 0 0 writes 1023
-10 1024 SLOW 0 0 earliest 1023
-10 1024 SLOW 0 0 latest 1023
-10 5000 SLOW 0 0 latest 1022
+10 1024 SLOW 0 0 0 reads 0
+10 1024 SLOW 0 0 0 writes 0
+10 1024 SLOW 0 0 0 earliest 0
+10 1024 SLOW 0 0 0 latest 0
+10 1024 SLOW 0 0 0 reads 5
+10 1024 SLOW 0 0 0 writes 5
+10 1024 SLOW 0 0 0 earliest 5
+10 1024 SLOW 0 0 0 latest 5
+10 1024 SLOW 0 0 0 reads 1023
+10 1024 SLOW 0 0 0 writes 1023
+10 1024 SLOW 0 0 0 earliest 1023
+10 1024 SLOW 0 0 0 latest 1023
+10 5000 SLOW 0 0 0 latest 1022
 # all cards are due, and none
-10 1024 SLOW 0 0 due 0
-11 1024 SLOW 0 0 due 0
-10 1023 SLOW 0 0 due 0
+10 1024 SLOW 0 0 0 due 0
+11 1024 SLOW 0 0 0 due 0
+10 1023 SLOW 0 0 0 due 0
 # of the workspace after clean the first and the last cell of the tables, the next, the last that must be 0, and the first and the last that must be as it was
-10 1024 SLOW 0 0 ws 0
-10 1024 SLOW 0 0 ws 4095
-10 1024 SLOW 0 0 ws 4096
-10 1024 SLOW 0 0 ws 12297
-10 1024 SLOW 0 0 ws 12298
-10 1024 SLOW 0 0 ws 12317
+10 1024 SLOW 0 0 0 ws 0
+10 1024 SLOW 0 0 0 ws 4095
+10 1024 SLOW 0 0 0 ws 4096
+10 1024 SLOW 0 0 0 ws 12297
+10 1024 SLOW 0 0 0 ws 12298
+10 1024 SLOW 0 0 0 ws 12317
 # after a race too, and after 16 all must be as it was
-11 1024 SLOW 0 0 ws 0
-11 1024 SLOW 0 0 ws 12318
-10 1023 SLOW 0 0 ws 0
-10 1023 SLOW 0 0 ws 4095
-10 1023 SLOW 0 0 ws 12317
+11 1024 SLOW 0 0 0 ws 0
+11 1024 SLOW 0 0 0 ws 12318
+10 1023 SLOW 0 0 0 ws 0
+10 1023 SLOW 0 0 0 ws 4095
+10 1023 SLOW 0 0 0 ws 12317
 # of the order buffers the first and the last cell of the order, and the next; after clean and 16 all must be as it was
-11 1024 SLOW 0 0 first 0
-11 1024 SLOW 0 0 first 10
-11 1024 SLOW 0 0 first 11
-11 1024 SLOW 0 0 second 0
-11 1024 SLOW 0 0 second 10
-11 1024 SLOW 0 0 second 11
-10 1024 SLOW 0 0 first 0
-10 1024 SLOW 0 0 second 0
-10 1023 SLOW 0 0 first 0
-10 1023 SLOW 0 0 second 0
+11 1024 SLOW 0 0 0 first 0
+11 1024 SLOW 0 0 0 first 10
+11 1024 SLOW 0 0 0 first 11
+11 1024 SLOW 0 0 0 second 0
+11 1024 SLOW 0 0 0 second 10
+11 1024 SLOW 0 0 0 second 11
+10 1024 SLOW 0 0 0 first 0
+10 1024 SLOW 0 0 0 second 0
+10 1023 SLOW 0 0 0 first 0
+10 1023 SLOW 0 0 0 second 0
 ",
         cells,
-    )
+    );
+    rows(count, CELLS)
 }
 
 // With no plant the events agree, and with it they do not.
@@ -92,8 +100,8 @@ pub fn is_noticed(cells: &[u16], row: usize, events: &[u16]) -> bool {
 
 pub fn try_all() -> Outcome {
     let mut events = [0u16; 33];
-    let mut cells = [0u16; 320];
+    let mut cells = [0u16; 400];
     lay_events(&mut events);
-    let count = read_plants(&mut cells);
-    go_through(&cells, count, Table::Plants, &events)
+    let rows = read_plants(&mut cells);
+    go_through(&cells, rows, Table::Plants, &events)
 }

@@ -3,6 +3,7 @@ use crate::compare::compare;
 use crate::lending::LENDINGS;
 use crate::lending::records_of;
 use test_calls::MISMATCH;
+use test_calls::REFUSED;
 use test_calls::Reply;
 use test_calls::drawn::sizes_of;
 use test_calls::judging;
@@ -15,21 +16,23 @@ use test_slow::Sizes;
 
 pub const TRACES: usize = 1000;
 
-// The counts of answers by their case, and last that of all events.
+// The counts of answers by their case; then that of all events, and from LINKS on those of the clean traces and races by the number of their links.
 pub const EVENTS: usize = 19;
+
+pub const LINKS: usize = 20;
 
 // The counts so far, and whether all answers agreed.
 pub struct Tally {
-    pub counts: [usize; 20],
+    pub counts: [usize; 31],
     pub agreed: bool,
 }
 
-pub fn count_at(counts: [usize; 20], i: usize) -> usize {
-    if i < 20 { counts[i] } else { 0 }
+pub fn count_at(counts: [usize; 31], i: usize) -> usize {
+    if i < 31 { counts[i] } else { 0 }
 }
 
-fn count(mut counts: [usize; 20], i: usize, more: usize) -> [usize; 20] {
-    if i < 20 {
+fn count(mut counts: [usize; 31], i: usize, more: usize) -> [usize; 31] {
+    if i < 31 {
         counts[i] = plus(counts[i], more);
     }
     counts
@@ -49,13 +52,23 @@ fn count_reply(tally: Tally, reply: Reply) -> Tally {
     }
 }
 
+// Counts an answer's links, if it tells them.
+fn count_links(tally: Tally, reply: Reply) -> Tally {
+    let counts = tally.counts;
+    let one = if reply.case < REFUSED { 1 } else { 0 };
+    Tally {
+        counts: count(counts, plus(LINKS, reply.links), one),
+        agreed: tally.agreed,
+    }
+}
+
 // Judges with each number of records, and counts the answers.
 fn judge_all(events: &[u16], sizes: Sizes, seed: usize, before: Tally) -> Tally {
     let mut tally = before;
     let mut i = 0;
     while i < LENDINGS {
         let reply = compare(events, judging(sizes, plus(seed, i)), records_of(i));
-        tally = count_reply(tally, reply);
+        tally = count_links(count_reply(tally, reply), reply);
         i += 1;
     }
     tally
@@ -81,7 +94,7 @@ fn try_one(seed: usize, tally: Tally) -> Tally {
 // How many traces agreed, one after the other, and the counts.
 pub struct Trials {
     pub agreed: usize,
-    pub counts: [usize; 20],
+    pub counts: [usize; 31],
 }
 
 fn tried(agreed: usize, tally: Tally) -> Trials {
@@ -91,7 +104,7 @@ fn tried(agreed: usize, tally: Tally) -> Trials {
 
 pub fn try_all() -> Trials {
     let mut tally = Tally {
-        counts: [0; 20],
+        counts: [0; 31],
         agreed: true,
     };
     let mut i = 0;

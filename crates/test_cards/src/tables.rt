@@ -2,7 +2,6 @@
 use crate::lengths;
 use crate::plants;
 use crate::written;
-use test_calls::table::CELLS;
 use test_outcome::Outcome;
 use test_outcome::make_outcome;
 
@@ -21,9 +20,8 @@ fn row_agrees(cells: &[u16], row: usize, table: Table, events: &[u16]) -> bool {
     }
 }
 
-// The table has so many cells: some, and none behind the last row's.
-pub fn go_through(cells: &[u16], count: usize, table: Table, events: &[u16]) -> Outcome {
-    let rows = count / CELLS;
+// The table has so many rows. None at all is a fault.
+pub fn go_through(cells: &[u16], rows: usize, table: Table, events: &[u16]) -> Outcome {
     let mut row = 0;
     while row < rows {
         if !row_agrees(cells, row, table, events) {
@@ -31,5 +29,5 @@ pub fn go_through(cells: &[u16], count: usize, table: Table, events: &[u16]) -> 
         }
         row += 1;
     }
-    make_outcome(row, (count % CELLS == 0) & (0 < row))
+    make_outcome(row, 0 < row)
 }

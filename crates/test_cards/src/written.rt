@@ -3,8 +3,8 @@ use crate::filled::same_card;
 use crate::tables::Table;
 use crate::tables::go_through;
 use test_calls::YES;
-use test_calls::table::CELLS;
 use test_calls::table::read_table;
+use test_calls::table::rows;
 use test_cells::get;
 use test_cells::least;
 use test_cells::plus;
@@ -12,10 +12,12 @@ use test_outcome::Outcome;
 use test_slow::card::Card;
 use test_slow::card::card_of;
 
-// Of each card: of how many of the events; its location; reads, writes, first and last position; and whether it is told right. Answers how many cells the table
-// has, as read_table does.
+const CELLS: usize = 7;
+
+// Of each card: of how many of the events; its location; reads, writes, first and last position; and whether it is told right. Answers how many cards there
+// are, 0 if the cells are too few for them.
 fn read_cards(cells: &mut [u16]) -> usize {
-    read_table(
+    let count = read_table(
         b"
 # no access, the first, and one more each time
 0 5 0 0 65535 65535 YES
@@ -40,7 +42,8 @@ fn read_cards(cells: &mut [u16]) -> usize {
 10 0 0 0 65534 65534 NO
 ",
         cells,
-    )
+    );
+    rows(count, CELLS)
 }
 
 // The slow card of a location, of the first n events of `plants`: here their kinds and operands.
@@ -79,7 +82,7 @@ pub fn row_agrees(cells: &[u16], row: usize) -> bool {
 
 pub fn try_all() -> Outcome {
     let mut cells = [0u16; 150];
-    let count = read_cards(&mut cells);
+    let rows = read_cards(&mut cells);
     let none = [0u16; 1];
-    go_through(&cells, count, Table::Cards, &none)
+    go_through(&cells, rows, Table::Cards, &none)
 }

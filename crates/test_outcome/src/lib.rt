@@ -1,5 +1,6 @@
 // What a row of tries comes to, and how the test programs tell it.
 use libc::STDOUT_FILENO;
+use test_cells::get_word;
 use test_cells::more;
 
 // How many came out as told, one after the other, and whether these are all.
@@ -20,9 +21,25 @@ pub fn with(before: Outcome, agrees: bool) -> Outcome {
     make_outcome(before.agreed, false)
 }
 
+fn print_next(n: usize) {
+    io::write_all(STDOUT_FILENO, b" ");
+    io::print_decimal(STDOUT_FILENO, n as u64);
+}
+
 pub fn print(text: &[u8], n: usize) {
     io::write_all(STDOUT_FILENO, text);
     io::print_decimal(STDOUT_FILENO, n as u64);
+    io::write_all(STDOUT_FILENO, b"\n");
+}
+
+// Numbers behind a text, in one line.
+pub fn print_all(text: &[u8], numbers: &[usize]) {
+    io::write_all(STDOUT_FILENO, text);
+    let mut i = 0;
+    while i < numbers.len() {
+        print_next(get_word(numbers, i));
+        i += 1;
+    }
     io::write_all(STDOUT_FILENO, b"\n");
 }
 

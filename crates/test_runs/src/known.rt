@@ -1,8 +1,10 @@
-// The runs that document 01 tells: each trace with its answer, and with both orders where they are told. Each is also judged by the slow judge, and asked
-// about every pair of positions.
+// The runs that document 01 tells, and those for the links of document 02's K2: each trace with its answer, and with both orders where they are told. Each is
+// also judged by the slow judge, and asked about every pair of positions.
 use test_calls::REFUSED;
 use test_calls::asking;
+use test_calls::chains;
 use test_calls::judging;
+use test_calls::known::HEAD;
 use test_calls::known::cells_of;
 use test_calls::known::next_run;
 use test_calls::known::orders_told;
@@ -43,7 +45,7 @@ fn events_agree(cells: &[u16], at: usize, events: &[u16], memory: &mut [usize]) 
 }
 
 fn run_agrees(cells: &[u16], at: usize, memory: &mut [usize]) -> bool {
-    let from = least(plus(at, 5), cells.len());
+    let from = least(plus(at, HEAD), cells.len());
     let to = from + least(cells_of(get(cells, at)), cells.len() - from);
     events_agree(cells, at, &cells[from..to], memory)
 }
@@ -71,11 +73,11 @@ fn go_through(cells: &[u16], count: usize, right: bool, memory: &mut [usize]) ->
 fn past_the_end(memory: &mut [usize]) -> bool {
     let none = [0u16; 1];
     let answer = compare(&none, asking(roomy(0), 0, 0, 1), memory);
-    same_reply(answer, make_reply(plus(REFUSED, 13), 0, 0))
+    same_reply(answer, make_reply(plus(REFUSED, 13), 0, 0, 0))
 }
 
 pub fn try_all(memory: &mut [usize]) -> Outcome {
-    let mut cells = [0u16; 512];
+    let mut cells = [0u16; 640];
     let count = read_runs(&mut cells);
     if !past_the_end(memory) {
         return make_outcome(0, false);
@@ -83,9 +85,16 @@ pub fn try_all(memory: &mut [usize]) -> Outcome {
     go_through(&cells, count, true, memory)
 }
 
-// That a run does not agree is noticed, whether its answer is told wrong or one of its orders.
+// The short runs for the links.
+pub fn try_chains(memory: &mut [usize]) -> Outcome {
+    let mut cells = [0u16; 1024];
+    let count = chains::read_runs(&mut cells);
+    go_through(&cells, count, true, memory)
+}
+
+// That a run does not agree is noticed, whether its answer is told wrong, its links, or one of its orders.
 pub fn try_wrong(memory: &mut [usize]) -> Outcome {
-    let mut cells = [0u16; 128];
+    let mut cells = [0u16; 256];
     let count = read_wrong_runs(&mut cells);
     go_through(&cells, count, false, memory)
 }

@@ -16,13 +16,13 @@ use test_outcome::with;
 // "32,768 reads by task 0: clean". Behind the events of a call stand reads by task 0.
 fn reads(memory: &mut [usize]) -> bool {
     let events = [0u16; 3];
-    agrees(&events, judging(make_reply(CLEAN, 0, 0)), memory)
+    agrees(&events, judging(make_reply(CLEAN, 0, 0, 0)), memory)
 }
 
 // A race of the last event with the second.
 fn race(events: &[u16], memory: &mut [usize]) -> bool {
     put_orders(memory);
-    agrees(events, judging(make_reply(RACE, 1, 32767)), memory)
+    agrees(events, judging(make_reply(RACE, 1, 32767, 0)), memory)
 }
 
 // The race, and that the fork reaches the last event and the child's write does not.

@@ -26,7 +26,7 @@ fn answers(events: &[u16], call: Call, want: Reply, memory: &mut [usize]) -> boo
 }
 
 // Whether the judges answer so.
-fn judges(events: &[u16], n: usize, want: Reply, memory: &mut [usize]) -> bool {
+pub fn judges(events: &[u16], n: usize, want: Reply, memory: &mut [usize]) -> bool {
     answers(events, judging(roomy(n), 3), want, memory)
 }
 
@@ -35,27 +35,33 @@ fn orders(events: &[u16], n: usize, p: usize, want: Reply, memory: &mut [usize])
     answers(events, asking(roomy(n), p, less(n), 7), want, memory)
 }
 
+// Whether they say yes, or no.
+fn reaches(events: &[u16], n: usize, p: usize, case: usize, memory: &mut [usize]) -> bool {
+    orders(events, n, p, make_reply(case, 0, 0, 0), memory)
+}
+
 // 1,024 tasks nest: the write of the innermost races with the last read of task 0, which the first fork reaches.
 fn nest(events: &mut [u16], memory: &mut [usize]) -> bool {
     lay_nest(events);
-    let race = judges(events, 2048, make_reply(RACE, 1023, 2047), memory);
-    let fork = orders(events, 2048, 0, make_reply(YES, 0, 0), memory);
-    let write = orders(events, 2048, 1023, make_reply(NO, 0, 0), memory);
+    let race = judges(events, 2048, make_reply(RACE, 1023, 2047, 0), memory);
+    let fork = reaches(events, 2048, 0, YES, memory);
+    let write = reaches(events, 2048, 1023, NO, memory);
     race & fork & write
 }
 
-// 1,023 halted tasks stand in the line: joined in the right order, they race with nobody, and the first one's read reaches the write of task 0.
+// 1,023 halted tasks stand in the line: joined in the right order, they race with nobody, and the first one's read reaches the write of task 0. Each hangs
+// under task 0.
 fn row(events: &mut [u16], memory: &mut [usize]) -> bool {
     lay_row(events);
-    let clean = judges(events, 4093, make_reply(CLEAN, 0, 0), memory);
-    let read = orders(events, 4093, 1, make_reply(YES, 0, 0), memory);
+    let clean = judges(events, 4093, make_reply(CLEAN, 0, 0, 1), memory);
+    let read = reaches(events, 4093, 1, YES, memory);
     clean & read
 }
 
 // The same, but the last two joins are in the wrong order.
 fn wrong_row(events: &mut [u16], memory: &mut [usize]) -> bool {
     swap_joins(events);
-    let want = make_reply(plus(REFUSED, 11), 4090, 0);
+    let want = make_reply(plus(REFUSED, 11), 4090, 0, 0);
     let judged = judges(events, 4093, want, memory);
     let ordered = orders(events, 4093, 1, want, memory);
     judged & ordered

@@ -1,4 +1,5 @@
 // The evidence: the judge against a slow one that stores all ancestors of all events. What it prints is held to the file `stdout`.
+mod chains;
 mod known;
 mod large;
 mod lines;
@@ -14,8 +15,9 @@ use test_outcome::all_agree;
 use test_outcome::all_noticed;
 use test_outcome::make_outcome;
 use test_outcome::print;
+use test_outcome::print_all;
 
-fn print_refusal(counts: [usize; 65], from: usize, number: usize) {
+fn print_refusal(counts: [usize; 76], from: usize, number: usize) {
     io::write_all(STDOUT_FILENO, b"  refused ");
     io::print_decimal(STDOUT_FILENO, number as u64);
     print(
@@ -24,7 +26,7 @@ fn print_refusal(counts: [usize; 65], from: usize, number: usize) {
     );
 }
 
-fn print_refusals(counts: [usize; 65], from: usize) {
+fn print_refusals(counts: [usize; 76], from: usize) {
     let mut number = 1;
     while number < 14 {
         print_refusal(counts, from, number);
@@ -32,15 +34,16 @@ fn print_refusals(counts: [usize; 65], from: usize) {
     }
 }
 
-fn print_judge(counts: [usize; 65]) {
+fn print_judge(counts: [usize; 76]) {
     print(b"  events of a trace, at most: ", test_slow::EVENTS);
     print(b"  events in all: ", count_at(counts, random::EVENTS));
     print(b"  clean: ", count_at(counts, test_calls::CLEAN));
     print(b"  race: ", count_at(counts, test_calls::RACE));
+    print_all(b"  links, from 0 to 10:", &counts[random::LINKS..]);
     print_refusals(counts, 0);
 }
 
-fn print_ordering(counts: [usize; 65]) {
+fn print_ordering(counts: [usize; 76]) {
     print(b"pairs of each trace: ", random::PAIRS);
     print(
         b"  yes: ",
@@ -66,6 +69,14 @@ fn try_random(memory: &mut [usize]) {
 
 fn try_known(memory: &mut [usize]) -> bool {
     all_agree(b"runs that document 01 tells: ", known::try_all(memory))
+}
+
+fn try_chains(memory: &mut [usize]) -> bool {
+    all_agree(b"runs for the links: ", known::try_chains(memory))
+}
+
+fn try_long(memory: &mut [usize]) -> bool {
+    all_agree(b"runs with long chains: ", chains::try_all(memory))
 }
 
 fn try_wrong(memory: &mut [usize]) -> bool {
@@ -96,6 +107,12 @@ fn try_lines(memory: &mut [usize]) -> bool {
 
 fn run(memory: &mut [usize; test_slow::MEMORY]) {
     if !try_known(memory) {
+        return;
+    }
+    if !try_chains(memory) {
+        return;
+    }
+    if !try_long(memory) {
         return;
     }
     if !try_wrong(memory) {

@@ -1,5 +1,6 @@
 // Many traces at random: both judges answer each, and both ordering calls several pairs of its positions.
 use test_calls::MISMATCH;
+use test_calls::REFUSED;
 use test_calls::Reply;
 use test_calls::drawn::asking_of;
 use test_calls::drawn::sizes_of;
@@ -17,23 +18,26 @@ pub const TRACES: usize = 10000;
 
 pub const PAIRS: usize = 4;
 
-// Counts of answers: the judge's cases from cell 0 on, the ordering call's from ORDERING on, and last all the events.
+// Counts of answers: the judge's cases from cell 0 on, the ordering call's from ORDERING on; then all the events, and from LINKS on the clean traces and races
+// by the number of their links.
 pub const ORDERING: usize = 32;
 
 pub const EVENTS: usize = 64;
 
+pub const LINKS: usize = 65;
+
 // The counts so far, and whether all answers agreed.
 pub struct Tally {
-    pub counts: [usize; 65],
+    pub counts: [usize; 76],
     pub agreed: bool,
 }
 
-pub fn count_at(counts: [usize; 65], i: usize) -> usize {
-    if i < 65 { counts[i] } else { 0 }
+pub fn count_at(counts: [usize; 76], i: usize) -> usize {
+    if i < 76 { counts[i] } else { 0 }
 }
 
-fn count(mut counts: [usize; 65], i: usize, more: usize) -> [usize; 65] {
-    if i < 65 {
+fn count(mut counts: [usize; 76], i: usize, more: usize) -> [usize; 76] {
+    if i < 76 {
         counts[i] = plus(counts[i], more);
     }
     counts
@@ -49,6 +53,17 @@ fn count_reply(tally: Tally, from: usize, reply: Reply) -> Tally {
     }
     Tally {
         counts: count(counts, plus(from, reply.case), 1),
+        agreed: tally.agreed,
+    }
+}
+
+// Counts a judge's answer, and its links if it tells them.
+fn count_judged(before: Tally, reply: Reply) -> Tally {
+    let tally = count_reply(before, 0, reply);
+    let counts = tally.counts;
+    let one = if reply.case < REFUSED { 1 } else { 0 };
+    Tally {
+        counts: count(counts, plus(LINKS, reply.links), one),
         agreed: tally.agreed,
     }
 }
@@ -85,7 +100,7 @@ fn judge_and_ask(
         events,
         sizes,
         stream(seed, 6),
-        count_reply(tally, 0, reply),
+        count_judged(tally, reply),
         memory,
     )
 }
@@ -111,7 +126,7 @@ fn try_one(seed: usize, tally: Tally, memory: &mut [usize]) -> Tally {
 // How many traces agreed, one after the other, and the counts.
 pub struct Trials {
     pub agreed: usize,
-    pub counts: [usize; 65],
+    pub counts: [usize; 76],
 }
 
 fn tried(agreed: usize, tally: Tally) -> Trials {
@@ -121,7 +136,7 @@ fn tried(agreed: usize, tally: Tally) -> Trials {
 
 pub fn try_all(memory: &mut [usize]) -> Trials {
     let mut tally = Tally {
-        counts: [0; 65],
+        counts: [0; 76],
         agreed: true,
     };
     let mut i = 0;

@@ -28,21 +28,22 @@ fn ordering_case(case: usize, n: usize) -> usize {
 
 fn asked(sizes: Sizes, case: usize, events: &[u16], run: usize, memory: &mut [usize]) -> bool {
     let answer = compare(events, asking(sizes, 0, 0, run), memory);
-    same_reply(answer, make_reply(ordering_case(case, sizes.kinds), 0, 0))
+    let want = make_reply(ordering_case(case, sizes.kinds), 0, 0, 0);
+    same_reply(answer, want)
 }
 
 pub fn run_agrees(cells: &[u16], run: usize, events: &[u16], memory: &mut [usize]) -> bool {
     let sizes = lengths(cells, run);
-    let case = told(cells, run);
+    let want = told(cells, run);
     let answer = compare(events, judging(sizes, run), memory);
-    let also = asked(sizes, case, events, run, memory);
-    same_reply(answer, make_reply(case, 0, 0)) & also
+    let also = asked(sizes, want.case, events, run, memory);
+    same_reply(answer, want) & also
 }
 
 // Every event is a read of location 0 by task 0.
 pub fn try_all(memory: &mut [usize]) -> Outcome {
     let mut cells = [0u16; 170];
-    let count = read_runs(&mut cells);
+    let rows = read_runs(&mut cells);
     let reads = [0u16; 3];
-    go_through(&cells, count, false, &reads, memory)
+    go_through(&cells, rows, false, &reads, memory)
 }

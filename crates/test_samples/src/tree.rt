@@ -52,8 +52,10 @@ fn sprout(events: &mut [u16], table: &[u16], task: usize, n: usize) -> usize {
     fold(events, table, task, plus(n, 2))
 }
 
-fn sprout_all(events: &mut [u16], table: &[u16], tasks: usize) -> usize {
-    let mut n = 0;
+// The events of the tree, from some number of events on. A power of two of tasks makes a chain of as many links as its exponent: each join is of trees of one
+// size. Answers the number of events.
+pub fn sprout_all(events: &mut [u16], table: &[u16], tasks: usize, from: usize) -> usize {
+    let mut n = from;
     let mut task = 1;
     while task < tasks {
         n = sprout(events, table, task, n);
@@ -80,7 +82,7 @@ fn look_back(events: &mut [u16], table: &[u16], tasks: usize, from: usize, to: u
 pub fn tree(events: &mut [u16], table: &[u16], seed: usize) -> usize {
     let one: usize = 1;
     let tasks = one << (1 + below(seed, 10) % 10);
-    let n = sprout_all(events, table, tasks);
+    let n = sprout_all(events, table, tasks, 0);
     look_back(
         events,
         table,

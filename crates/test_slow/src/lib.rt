@@ -2,6 +2,7 @@
 // types alone.
 pub mod card;
 mod events;
+mod joins;
 mod memory;
 mod paths;
 mod races;
@@ -9,6 +10,8 @@ mod rules;
 
 use events::Event;
 use events::event_at;
+use joins::links_after;
+use test_cells::more;
 use test_cells::plus;
 use trace::Answer;
 use trace::Ordering;
@@ -29,14 +32,21 @@ const WORKSPACE: usize = 12288;
 // "fewer than 1,024 records"
 const RECORDS: usize = 1024;
 
-fn refused(number: usize, position: usize) -> Answer {
-    Answer::Refused(Refusal { number, position })
+// What the events come to, by document 01 alone: the links are counted once that is known.
+enum Verdict {
+    Clean,
+    Race(usize, usize),
+    Refused(Refusal),
 }
 
-// What an event comes to: the task that runs after it, or the answer that it decides.
+fn refusal(number: usize, position: usize) -> Refusal {
+    Refusal { number, position }
+}
+
+// What an event comes to: the task that runs after it, or the verdict that it decides.
 enum Outcome {
     Passed(usize),
-    Failed(Answer),
+    Failed(Verdict),
 }
 
 // The arcs into event q, then the race test, if races are asked for: the position that q races with, or q.
@@ -71,11 +81,11 @@ fn take(
     let event = event_at(kinds, tasks, operands, q);
     let number = rules::row(kinds, operands, memory, running, event, q);
     if number != 0 {
-        return Outcome::Failed(refused(number, q));
+        return Outcome::Failed(Verdict::Refused(refusal(number, q)));
     }
     let s = race_test(kinds, tasks, operands, memory, racing, event, q);
     if s < q {
-        return Outcome::Failed(Answer::Race(s, q));
+        return Outcome::Failed(Verdict::Race(s, q));
     }
     Outcome::Passed(rules::after(memory, event))
 }
@@ -87,7 +97,7 @@ fn take_all(
     operands: &[u16],
     memory: &mut [usize],
     racing: bool,
-) -> Answer {
+) -> Verdict {
     rules::start(memory);
     let mut running = 0;
     let mut q = 0;
@@ -97,13 +107,13 @@ fn take_all(
             Outcome::Passed(next) => {
                 running = next;
             }
-            Outcome::Failed(answer) => {
-                return answer;
+            Outcome::Failed(verdict) => {
+                return verdict;
             }
         }
         q += 1;
     }
-    Answer::Clean
+    Verdict::Clean
 }
 
 // How many cells of each slice are lent.
@@ -161,6 +171,27 @@ fn cards_row(sizes: Sizes, records: usize) -> usize {
     0
 }
 
+// The links at a clean trace are those after all events, at a race those after event t: "later events are not looked at". "with a refusal, 0": there the answer
+// holds none.
+fn answer_of(
+    kinds: &[u8],
+    tasks: &[u16],
+    operands: &[u16],
+    memory: &mut [usize],
+    verdict: Verdict,
+) -> Answer {
+    match verdict {
+        Verdict::Clean => {
+            Answer::Clean(links_after(kinds, tasks, operands, memory, kinds.len()))
+        }
+        Verdict::Race(s, t) => {
+            races::orders(memory, s, t);
+            Answer::Race(s, t, links_after(kinds, tasks, operands, memory, more(t)))
+        }
+        Verdict::Refused(refusal) => Answer::Refused(refusal),
+    }
+}
+
 // What the judge must answer to slices of these sizes; kinds, tasks and operands are of theirs. After a race the two orders stand at ORDERS.
 pub fn judge(
     kinds: &[u8],
@@ -171,13 +202,10 @@ pub fn judge(
 ) -> Answer {
     let number = judge_row(sizes);
     if number != 0 {
-        return refused(number, 0);
+        return Answer::Refused(refusal(number, 0));
     }
-    let answer = take_all(kinds, tasks, operands, memory, true);
-    if let Answer::Race(s, t) = answer {
-        races::orders(memory, s, t);
-    }
-    answer
+    let verdict = take_all(kinds, tasks, operands, memory, true);
+    answer_of(kinds, tasks, operands, memory, verdict)
 }
 
 // What the judge with cards must answer where so many records are lent: a check more, and else as the judge.
@@ -191,7 +219,7 @@ pub fn judge_cards(
 ) -> Answer {
     let number = cards_row(sizes, records);
     if number != 0 {
-        return refused(number, 0);
+        return Answer::Refused(refusal(number, 0));
     }
     judge(kinds, tasks, operands, sizes, memory)
 }
@@ -207,10 +235,7 @@ pub fn cleared(refusal: usize, n: usize) -> usize {
 }
 
 fn not_ordered(number: usize) -> Ordering {
-    Ordering::Refused(Refusal {
-        number,
-        position: 0,
-    })
+    Ordering::Refused(refusal(number, 0))
 }
 
 // Whether p reaches q, of a trace that keeps the line rules.
@@ -241,8 +266,8 @@ pub fn ordering(
     if number != 0 {
         return not_ordered(number);
     }
-    let answer = take_all(kinds, tasks, operands, memory, false);
-    let Answer::Refused(refusal) = answer else {
+    let verdict = take_all(kinds, tasks, operands, memory, false);
+    let Verdict::Refused(refusal) = verdict else {
         return ordered(sizes.kinds, memory, p, q);
     };
     Ordering::Refused(refusal)

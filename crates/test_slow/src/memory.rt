@@ -10,8 +10,11 @@ pub const LEFT: usize = 262144;
 
 pub const PARENT: usize = 263169;
 
+// The table of joins, with a cell for each task: the task that it hangs under, and itself where it is a top.
+pub const ABOVE: usize = 264194;
+
 // After a race the two orders of the events up to t, the second right behind the first. There is room for those of the largest trace that the fast judge
 // takes, so that a caller may hold such orders of its own there.
-pub const ORDERS: usize = 264194;
+pub const ORDERS: usize = 265218;
 
-pub const MEMORY: usize = 329730;
+pub const MEMORY: usize = 330754;

@@ -1,5 +1,5 @@
--- What a C caller is told: a code and two values for each thing that document 01 has a call say, and what the call leaves in the lent buffers.
--- Assumes nothing.
+-- What a C caller is told: a code and two values for each thing that document 01 has a call say, of the judge a third one, and what the call leaves in the lent
+-- buffers. Assumes nothing.
 use Prim.Native.Nat.{ℕ, zero, suc}
 use mathlib.Core.Path.{_≡_}
 use mathlib.Core.Bool.{Bool, true, false, cond, _||_}
@@ -12,7 +12,7 @@ use Rattle.trace.specs.Slices.{Slices, slices}
 use Rattle.form.specs.Decided.{MAX-TEXT-EVENTS, Translated, DecidedBy}
 use Rattle.form.specs.Translation.{translated}
 
--- The code that is returned, and the two values.
+-- The code that is returned, and the values.
 pub record Told : Type 0 where
   pub code : ℕ
   pub values : List ℕ
@@ -20,17 +20,24 @@ pub record Told : Type 0 where
 abbrev pub told : ℕ → ℕ → ℕ → Told
 told code a b = record { code = code; values = a ∷ b ∷ [] }
 
--- The judge: 0 clean; 1 race, with s and t; 2 refused, with the number and the position.
-unfoldable pub judgeTold : Reply Verdict → Told
-judgeTold (says clean) = told 0 0 0
-judgeTold (says (race s t)) = told 1 s t
-judgeTold (refused number position) = told 2 number position
+abbrev toldLinks : ℕ → ℕ → ℕ → ℕ → Told
+toldLinks code a b links = record { code = code; values = a ∷ b ∷ links ∷ [] }
 
--- What a caller hears: the answer that a code and two values of the judge tell.
+-- The judge: 0 clean; 1 race, with s and t; 2 refused, with the number and the position. The third value is the number of links beside the answer.
+unfoldable pub judgeTold : Reply Verdict → ℕ → Told
+judgeTold (says clean) links = toldLinks 0 0 0 links
+judgeTold (says (race s t)) links = toldLinks 1 s t links
+judgeTold (refused number position) links = toldLinks 2 number position links
+
+-- What a caller hears: the answer that a code and the values of the judge tell,
 unfoldable pub heard : ℕ → List ℕ → Reply Verdict
 heard zero values = says clean
 heard (suc zero) values = says (race (getD values 0 0) (getD values 1 0))
 heard (suc (suc code)) values = refused (getD values 0 0) (getD values 1 0)
+
+-- and the number of links beside it.
+unfoldable pub heardLinks : List ℕ → ℕ
+heardLinks values = getD values 2 0
 
 -- The ordering call: 0 no; 1 yes; 2 refused, with the number and the position.
 unfoldable pub orderingTold : Reply Bool → Told
@@ -47,7 +54,7 @@ pub record JudgeCall : Type 0 where
 
 -- The one that an outcome asks for.
 unfoldable pub judgeCall : Outcome → JudgeCall
-judgeCall o = record { said = judgeTold (o .answer); workspace = o .workspace; first = o .first; second = o .second }
+judgeCall o = record { said = judgeTold (o .answer) (o .links); workspace = o .workspace; first = o .first; second = o .second }
 
 -- The one that is seen: the code returned, the values and the buffers at exit.
 abbrev pub judgeSeen : ℕ → List ℕ → List ℕ → List ℕ → List ℕ → JudgeCall

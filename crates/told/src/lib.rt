@@ -1,12 +1,12 @@
-// What a C caller is told: the judge of a whole trace, the ordering call and the translation of a text return a code and store two values, and
-// `specs/Codes.antt` says which. `capi` has them under their names in C.
+// What a C caller is told: the judge of a whole trace, the ordering call and the translation of a text return a code and store two values, the judge a third
+// one, and `specs/Codes.antt` says which. `capi` has them under their names in C.
 mod translation;
 
 ghost use mathlib.Core.Path.{_≡_};
 ghost use Rattle.trace.specs.Outcome.{judgeOutcome, orderingOutcome};
 ghost use Rattle.trace.specs.Slices.{slices};
-ghost use Rattle.trace.specs.Demands.{JudgeDemand1, JudgeDemand2, JudgeDemand3};
-ghost use Rattle.told.specs.Codes.{heard, judgeCall, judgeSeen, orderingCall, orderingSeen, translateCall, translateSeen, TranslateTells};
+ghost use Rattle.trace.specs.Demands.{JudgeDemand1, JudgeDemand2, JudgeDemand3, JudgeLinks};
+ghost use Rattle.told.specs.Codes.{heard, heardLinks, judgeCall, judgeSeen, orderingCall, orderingSeen, translateCall, translateSeen, TranslateTells};
 use text::Translation;
 use text::limits::MAX_TEXT_EVENTS;
 use trace::Answer;
@@ -38,7 +38,7 @@ pub fn judge(
     ws: &mut [u16],
     first: &mut [u16],
     second: &mut [u16],
-    values: &mut [u64; 2],
+    values: &mut [u64; 3],
 ) -> u64
     ensures outcome { λ r. ⌜ judgeSeen r (now (values .exit)) (now (ws .exit)) (now (first .exit)) (now (second .exit))
         ≡ judgeCall (judgeOutcome (now (kinds .entry)) (now (tasks .entry)) (now (operands .entry))
@@ -50,19 +50,21 @@ pub fn judge(
         (now (ws .entry)) (now (first .entry)) (now (second .entry)) (heard r (now (values .exit))) ⌝ }
     ensures demand3 { λ r. ⌜ JudgeDemand3 (now (kinds .entry)) (now (tasks .entry)) (now (operands .entry))
         (heard r (now (values .exit))) (now (first .entry)) (now (second .entry)) (now (first .exit)) (now (second .exit)) ⌝ }
+    ensures chains { λ r. ⌜ JudgeLinks (now (kinds .entry)) (now (tasks .entry)) (now (operands .entry))
+        (heard r (now (values .exit))) (heardLinks (now (values .exit))) ⌝ }
 {
     let answer = judge::judge(kinds, tasks, operands, ws, first, second);
     match answer {
-        Answer::Clean => {
-            *values = [0, 0];
+        Answer::Clean(links) => {
+            *values = [0, 0, links as u64];
             CLEAN
         }
-        Answer::Race(s, t) => {
-            *values = [s as u64, t as u64];
+        Answer::Race(s, t, links) => {
+            *values = [s as u64, t as u64, links as u64];
             RACE
         }
         Answer::Refused(refusal) => {
-            *values = [refusal.number as u64, refusal.position as u64];
+            *values = [refusal.number as u64, refusal.position as u64, 0];
             REFUSED
         }
     }

@@ -1,5 +1,5 @@
--- THE DEMANDS DECIDE. An answer, a workspace and two order buffers that meet demands 1 to 3 are those of the judge's outcome, for everything that can be
--- lent (`judge-decided`); and likewise of the ordering call (`ordering-decided`). So whoever believes the demands need not believe the outcome, but for the
+-- THE DEMANDS DECIDE. An answer, a workspace and two order buffers that meet demands 1 to 3, and a number of links that is what K2 says, are those of the judge's
+-- outcome, for everything that can be lent (`judge-decided`); and likewise of the ordering call (`ordering-decided`). So whoever believes the demands need not believe the outcome, but for the
 -- size checks, which both cite; and a field that decides cannot be weakened. (Some of the owner's sentences follow from the others, as that on clean traces
 -- follows from demand 2.) Assumes nothing.
 use Prim.Native.Nat.{ℕ, suc, _+_, _<_}
@@ -11,8 +11,8 @@ use lib.ListN.{length, take, drop, take-append-drop}
 use lib.Seq.{ext-getD}
 use Rattle.trace.specs.Trace.{Trace, traceOf, WORKSPACE-CELLS}
 use Rattle.trace.specs.Line.{Checked, passes, fails, haltOperand, lineAfter}
-use Rattle.trace.specs.Outcome.{Reply, says, refused, Verdict, clean, race, judgement, inD?, schedule, sizes, orderRoom, cleared, Outcome, firstOrder, secondOrder, judgeChecked, judgeOutcome, ordering, OrderingOutcome, orderingChecked, orderingOutcome}
-use Rattle.trace.specs.Demands.{FirstCellsZero, JudgeDemand1, OrderingDemand1, graphOf, Demand2, JudgeDemand2, OrderingDemand, OrderingCallDemand, InPositionOrder, Scheduled, JudgeDemand3}
+use Rattle.trace.specs.Outcome.{Reply, says, refused, Verdict, clean, race, judgement, inD?, schedule, sizes, orderRoom, cleared, lookedAt, linksBeside, Outcome, firstOrder, secondOrder, judgeChecked, judgeOutcome, ordering, OrderingOutcome, orderingChecked, orderingOutcome}
+use Rattle.trace.specs.Demands.{FirstCellsZero, JudgeDemand1, OrderingDemand1, graphOf, Demand2, JudgeDemand2, OrderingDemand, OrderingCallDemand, InPositionOrder, Scheduled, JudgeDemand3, JudgeLinks}
 use Rattle.trace.proofs.Tests.{either, lt-or-le}
 use Rattle.trace.proofs.Lists.{rising-same, length-zeros-drop, getD-zeros-drop-below, getD-zeros-drop-beyond}
 use Rattle.trace.proofs.Lines.{by-check}
@@ -20,6 +20,7 @@ use Rattle.trace.proofs.Sizes.{sized, sized-first, sizes-row, order-roo
 use Rattle.trace.proofs.Demand2.{demand-2, judgement-rows}
 use Rattle.trace.proofs.Demand3.{race-scheduled}
 use Rattle.trace.proofs.OrderingCall.{ordering-demand, ordering-rows}
+use Rattle.trace.proofs.Chains.{most-decided}
 
 -- ---- the answer
 
@@ -74,7 +75,8 @@ schedule-decided tr graph s t a b xs ys x y =
 module _ (kinds tasks operands workspace first second : List ℕ) (answer : Reply Verdict) (workspace′ first′ second′ : List ℕ)
     (one : JudgeDemand1 kinds tasks operands workspace first second answer workspace′ first′ second′)
     (two : JudgeDemand2 kinds tasks operands workspace first second answer)
-    (three : JudgeDemand3 kinds tasks operands answer first second first′ second′) where
+    (three : JudgeDemand3 kinds tasks operands answer first second first′ second′)
+    (links : ℕ) (chains : JudgeLinks kinds tasks operands answer links) where
   abbrev tr : Trace
   tr = traceOf kinds tasks operands
 
@@ -82,7 +84,7 @@ module _ (kinds tasks operands workspace first second : List ℕ) (answer : Repl
   checks = orderRoom first second (sizes kinds tasks operands workspace)
 
   abbrev found : Outcome
-  found = record { answer = answer; workspace = workspace′; first = first′; second = second′ }
+  found = record { answer = answer; links = links; workspace = workspace′; first = first′; second = second′ }
 
   -- Past the size checks the buffers hold what the answer says.
   buffers-decided : (n : ℕ) → length kinds ≡ n → (reply : Reply Verdict) → answer ≡ reply → judgement haltOperand tr n ≡ reply
@@ -101,6 +103,14 @@ module _ (kinds tasks operands workspace first second : List ℕ) (answer : Repl
       buffer-decided a b after before held listed rest =
           sym (take-append-drop (suc t) after) ∙ cc (schedule-decided tr (graphOf tr n) s t a b _ _ held listed, rest)
 
+  -- The number of links is that of the answer.
+  links-decided : (n : ℕ) → length kinds ≡ n → (reply : Reply Verdict) → answer ≡ reply → links ≡ linksBeside tr n reply
+  unfolding linksBeside
+  links-decided n whole (says v) e =
+      let looked : lookedAt (length kinds) answer ≡ lookedAt n (says v) = rw (whole, e) in
+      rw looked at (most-decided (chains .bound (lookedAt (length kinds) answer) (omega arith)) (chains .with-verdict v e))
+  links-decided n whole (refused number position) e = chains .with-refusal number position e
+
   decided-fails : (number : ℕ) → checks ≡ fails number → found ≡ judgeChecked kinds tasks operands workspace first second (fails number)
   unfolding judgeChecked
   decided-fails number e =
@@ -108,7 +118,7 @@ module _ (kinds tasks operands workspace first second : List ℕ) (answer : Repl
       let row = order-room-row kinds tasks operands workspace first second number e in
       let w : workspace′ ≡ workspace = one .workspace-kept number 0 a (row .1) in
       let orders = one .orders-kept (λ s t g. refused-not-says a g) in
-      cc (a, w, orders .0, orders .1)
+      cc (a, w, orders .0, orders .1, chains .with-refusal number 0 a)
 
   decided-passes : (n : ℕ) → checks ≡ passes n → found ≡ judgeChecked kinds tasks operands workspace first second (passes n)
   unfolding judgeChecked
@@ -118,9 +128,10 @@ module _ (kinds tasks operands workspace first second : List ℕ) (answer : Repl
       let zero = one .workspace-cleared (λ number p f. let rows = judgement-rows tr n number p (sym a ∙ f) .0 in omega arith) in
       let w : workspace′ ≡ cleared n workspace = workspace-decided n workspace workspace′ (rw whole at zero) in
       let orders = buffers-decided n whole (judgement haltOperand tr n) a refl in
-      cc (a, w, orders .0, orders .1)
+      let said : links ≡ linksBeside tr n (judgement haltOperand tr n) = links-decided n whole (judgement haltOperand tr n) a in
+      cc (a, said, w, orders .0, orders .1)
 
-  -- DEMANDS 1 TO 3 DECIDE what the judge answers and leaves in every lent buffer.
+  -- DEMANDS 1 TO 3 AND K2 DECIDE what the judge answers and leaves in every lent buffer.
   pub judge-decided : found ≡ judgeOutcome kinds tasks operands workspace first second
   unfolding judgeOutcome
   judge-decided = by-check checks (λ n e. rw e (decided-passes n e)) (λ number e. rw e (decided-fails number e))

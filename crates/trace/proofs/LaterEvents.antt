@@ -1,8 +1,8 @@
 -- "The first failure decides and later events are not looked at." Two traces that agree on the first t + 1 events, whatever follows in either: where
--- the judgement of one is decided at event t, by a race s t or by a refusal at t, that of the other is the same, and so are the two orders of a race.
--- Assumes nothing.
-use Prim.Native.Nat.{ℕ, suc, _<_, _≤_}
-use mathlib.Core.Path.{_≡_, sym, ap, _∙_}
+-- the judgement of one is decided at event t, by a race s t or by a refusal at t, that of the other is the same, and so are the two orders of a race and
+-- the number of links beside it. Assumes nothing.
+use Prim.Native.Nat.{ℕ, zero, suc, _<_, _≤_}
+use mathlib.Core.Path.{_≡_, refl, sym, ap, _∙_}
 use mathlib.Core.Bool.{Bool}
 use mathlib.Core.List.{List, _∷_, _++_}
 use mathlib.Core.Logic.{inl, inr, _↔_}
@@ -12,7 +12,8 @@ use Rattle.trace.specs.Line.{haltOperand, lineAfter}
 use Rattle.trace.specs.Graph.{Reach}
 use Rattle.trace.specs.Race.{Race}
 use Rattle.trace.specs.Orders.{positions, select}
-use Rattle.trace.specs.Outcome.{says, refused, race, judgement, inD?, other?, schedule}
+use Rattle.trace.specs.Joins.{joinedBy, joinsAfter, longestAfter}
+use Rattle.trace.specs.Outcome.{says, refused, race, judgement, inD?, other?, schedule, lookedAt, linksBeside}
 use Rattle.trace.specs.Demands.{KeepsRules, NoRaceBefore, graphOf, IsRefused, IsRace}
 use Rattle.trace.proofs.Tests.{either, tests-map, tests-unique}
 use Rattle.trace.proofs.Lists.{select-same}
@@ -41,6 +42,12 @@ module _ (tr tr′ : Trace) (n n′ m : ℕ) (same : SameEvents tr tr′ m) wher
 
   lines-same : (k : ℕ) → k ≤ m → lineAfter haltOperand tr k ≡ lineAfter haltOperand tr′ k
   lines-same = line-same haltOperand alike (λ p h k. same .operands p h)
+
+  joins-same : (k : ℕ) → k ≤ m → joinsAfter tr k ≡ joinsAfter tr′ k
+  unfolding joinsAfter joinedBy
+  joins-same zero h = refl
+  joins-same (suc k) h =
+      rw (joins-same k (omega arith), same .kinds k (omega arith), same .tasks k (omega arith), same .operands k (omega arith))
 
   -- The first k events, k at most m, are in both graphs: then paths to them and races among them are the same.
   module _ (k : ℕ) (few : k ≤ m) (inside : k ≤ graphOf tr n) (inside′ : k ≤ graphOf tr′ n′) where
@@ -111,6 +118,11 @@ module _ (tr tr′ : Trace) (n n′ t : ℕ) (same : SameEvents tr tr′ (suc t)
       let before = r .before in
       schedule-same (inD? tr (graphOf tr n) s t) (inD? tr′ (graphOf tr′ n′) s t)
       (in-D-alike tr tr′ n n′ (suc t) same (suc t) (omega arith) (g .0) (g .1) s t (omega arith) (omega arith)) s t a b
+
+  -- in the links beside it,
+  pub later-links : (s : ℕ) → linksBeside tr n (says (race s t)) ≡ linksBeside tr′ n′ (says (race s t))
+  unfolding linksBeside lookedAt longestAfter
+  later-links s = rw (joins-same tr tr′ n n′ (suc t) same (suc t) (omega arith))
 
   refused-carries : (number : ℕ) → IsRefused tr n number t → IsRefused tr′ n′ number t
   refused-carries number r =

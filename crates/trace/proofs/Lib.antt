@@ -17,6 +17,7 @@ pub mod Conflicts
 pub mod Numbers
 pub mod Searches
 pub mod Counts
+pub mod Chains
 pub mod Sizes
 pub mod Demand2
 pub mod OrderingCall

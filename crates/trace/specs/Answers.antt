@@ -1,4 +1,5 @@
 -- Document 01's number and values for each case of the answers that the code gives. Every promise about an answer goes through these. Assumes nothing.
+use Prim.Native.Nat.{ℕ}
 use mathlib.Core.Bool.{Bool, true, false}
 use Rattle.trace.specs.declared.Answer.{Answer}
 use Rattle.trace.specs.declared.Answer.the-variants.{Clean, Race, Refused}
@@ -7,9 +8,15 @@ use Rattle.trace.specs.Outcome.{Reply, says, refused, Verdict, clean, ra
 
 -- The judge: clean, race s t, or refused number position.
 unfoldable pub judgeReply : Answer → Reply Verdict
-judgeReply Clean = says clean
-judgeReply (Race s t) = says (race s t)
+judgeReply (Clean links) = says clean
+judgeReply (Race s t links) = says (race s t)
 judgeReply (Refused r) = refused (r .number) (r .position)
+
+-- The number of links beside it: "with a refusal, 0".
+unfoldable pub judgeLinks : Answer → ℕ
+judgeLinks (Clean links) = links
+judgeLinks (Race s t links) = links
+judgeLinks (Refused r) = 0
 
 -- The ordering call: yes, no, or refused number position.
 unfoldable pub orderingReply : Ordering → Reply Bool

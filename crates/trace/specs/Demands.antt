@@ -1,16 +1,18 @@
--- The owner's demands 1, 2 and 3, as records that a contract can cite; what the ordering call's answer says; and why a race matters. Assumes nothing.
+-- The owner's demands 1, 2 and 3, as records that a contract can cite; what the ordering call's answer says, and the number beside the judge's; and why a
+-- race matters. Assumes nothing.
 use Prim.Native.Nat.{ℕ, suc, _+_, _<_, _≤_}
 use mathlib.Core.Path.{_≡_}
 use mathlib.Core.Bool.{Bool, true, false}
 use mathlib.Core.List.{List, _∷_, _++_}
 use mathlib.Core.Logic.{_⊎_, _↔_, _≢_}
 use lib.ListN.{length, getD, take, drop}
-use Rattle.trace.specs.Trace.{Trace, traceOf, READ, WRITE, WORKSPACE-CELLS}
+use Rattle.trace.specs.Trace.{Trace, traceOf, READ, WRITE, TASKS, WORKSPACE-CELLS}
 use Rattle.trace.specs.Line.{Line, passes, fails, haltOperand, step, lineAfter}
 use Rattle.trace.specs.Graph.{Reach, graphEvents}
 use Rattle.trace.specs.Race.{Conflict, Race, InD}
 use Rattle.trace.specs.Orders.{occurrences, Rising, Order, KeepsArcs, positions, lastWrite, sees}
-use Rattle.trace.specs.Outcome.{Reply, says, refused, Verdict, clean, race, sizes, orderRoom}
+use Rattle.trace.specs.Joins.{Chain, MAX-LINKS, joinsAfter}
+use Rattle.trace.specs.Outcome.{Reply, says, refused, Verdict, clean, race, sizes, orderRoom, lookedAt}
 
 -- ---- demand 1
 
@@ -188,6 +190,29 @@ pub record Demand3 (tr : Trace) (n : ℕ) (answer : Reply Verdict) (b₁ b₂ a�
 -- DEMAND 3 of the judge's answer to what was lent, and of the order buffers at exit: "For every trace and every set of lent buffers".
 abbrev pub JudgeDemand3 : List ℕ → List ℕ → List ℕ → Reply Verdict → List ℕ → List ℕ → List ℕ → List ℕ → Type 0
 JudgeDemand3 kinds tasks operands answer b₁ b₂ a₁ a₂ = Demand3 (traceOf kinds tasks operands) (length kinds) answer b₁ b₂ a₁ a₂
+
+-- ---- how long the chains get (document 02, K2)
+
+-- In the table of joins after the first m events:
+module _ (tr : Trace) (m : ℕ) where
+  -- "the links between the task and the top": from each task a chain of them leads to a top; "and is never above 10".
+  pub record FewLinks : Type 0 where
+    pub chain : (t : ℕ) → t < TASKS → (h : ℕ) × (k : ℕ) × Chain (joinsAfter tr m) t h k
+    pub few : (t h k : ℕ) → t < TASKS → Chain (joinsAfter tr m) t h k → k ≤ MAX-LINKS
+
+  -- "the largest such number that any task has"
+  pub record MostLinks (links : ℕ) : Type 0 where
+    pub has : (t : ℕ) × (h : ℕ) × (t < TASKS) × Chain (joinsAfter tr m) t h links
+    pub most : (t h k : ℕ) → t < TASKS → Chain (joinsAfter tr m) t h k → k ≤ links
+
+-- What the number beside the judge's answer says.
+pub record JudgeLinks (kinds tasks operands : List ℕ) (answer : Reply Verdict) (links : ℕ) : Type 0 where
+  -- "Every caller's promise carries that bound": after each number of events looked at, of every task.
+  pub bound : (m : ℕ) → m ≤ lookedAt (length kinds) answer → FewLinks (traceOf kinds tasks operands) m
+  -- "With clean or race the judge reports the largest such number that any task has after the last event looked at;"
+  pub with-verdict : (v : Verdict) → answer ≡ says v → MostLinks (traceOf kinds tasks operands) (lookedAt (length kinds) answer) links
+  -- "with a refusal, 0."
+  pub with-refusal : (number position : ℕ) → answer ≡ refused number position → links ≡ 0
 
 -- ---- why a race matters
 

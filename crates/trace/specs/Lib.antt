@@ -6,6 +6,7 @@ pub mod Graph
 pub mod Race
 pub mod Orders
 pub mod Search
+pub mod Joins
 pub mod Outcome
 pub mod Demands
 pub mod Answers

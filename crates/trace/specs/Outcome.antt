@@ -11,6 +11,7 @@ use Rattle.trace.specs.Line.{Line, Checked, passes, fails, row, haltOper
 use Rattle.trace.specs.Graph.{graphEvents}
 use Rattle.trace.specs.Orders.{positions, select}
 use Rattle.trace.specs.Search.{leastBelow, reach?, race?}
+use Rattle.trace.specs.Joins.{longestAfter}
 
 -- What a call says, or one refusal: its number in the table and its position.
 pub data Reply (A : Type 0) : Type 0 where
@@ -93,9 +94,25 @@ orderRoom first second (passes n) = row 4 (ltb (length first) n || ltb (length s
 unfoldable pub cleared : ℕ → List ℕ → List ℕ
 cleared n workspace = replicate (WORKSPACE-CELLS + n) 0 ++ drop (WORKSPACE-CELLS + n) workspace
 
--- What the judge answers, and what it leaves in the workspace and in both order buffers.
+-- ---- the number beside the answer
+
+-- How many of n events the table of joins is of: "after the last event looked at". That is t where t races; a refused event joins nothing.
+unfoldable pub lookedAt : ℕ → Reply Verdict → ℕ
+lookedAt n (says clean) = n
+lookedAt n (says (race s t)) = suc t
+lookedAt n (refused number position) = position
+
+-- "With clean or race the judge reports the largest such number that any task has after the last event looked at; with a refusal, 0."
+unfoldable pub linksBeside : Trace → ℕ → Reply Verdict → ℕ
+linksBeside tr n (says verdict) = longestAfter tr (lookedAt n (says verdict))
+linksBeside tr n (refused number position) = 0
+
+-- ---- all that a call leaves
+
+-- What the judge answers, the number of links beside it, and what it leaves in the workspace and in both order buffers.
 pub record Outcome : Type 0 where
   pub answer : Reply Verdict
+  pub links : ℕ
   pub workspace : List ℕ
   pub first : List ℕ
   pub second : List ℕ
@@ -116,13 +133,14 @@ module _ (tr : Trace) (graph : ℕ) where
 module _ (kinds tasks operands workspace first second : List ℕ) where
   -- "A refusal tied to no event, line or byte has position 0." After refusals 1 to 4 every buffer is unchanged.
   unfoldable pub judgeChecked : Checked ℕ → Outcome
-  judgeChecked (fails number) = record { answer = refused number 0; workspace = workspace; first = first; second = second }
+  judgeChecked (fails number) = record { answer = refused number 0; links = 0; workspace = workspace; first = first; second = second }
   judgeChecked (passes n) =
       let tr = traceOf kinds tasks operands in
       let graph = graphEvents haltOperand tr n in
       let answer = judgement haltOperand tr n in
       record {
         answer = answer;
+        links = linksBeside tr n answer;
         workspace = cleared n workspace;
         first = firstOrder tr graph answer first;
         second = secondOrder tr graph answer second;

@@ -24,7 +24,7 @@ sized kinds tasks operands workspace first second number =
       workspace = cells workspace 9;
       first = cells first 9;
       second = cells second 9;
-      outcome = record { answer = refused number 0; workspace = cells workspace 9; first = cells first 9; second = cells second 9 };
+      outcome = record { answer = refused number 0; links = 0; workspace = cells workspace 9; first = cells first 9; second = cells second 9 };
     }
 
 -- In the order of the rows; the document's own example first, where a row has several.
@@ -52,7 +52,7 @@ event task kind operand = record { task = task; kind = kind; operand = operand }
 unfoldable pub examples : List Example
 examples =
     gives (event 0 5 0 ∷ []) (refused 5 0)
-    ∷ example 0 (event 0 5 0 ∷ []) (refused 5 0) [] []
+    ∷ example 0 (event 0 5 0 ∷ []) (refused 5 0) 0 [] []
     ∷ gives (event 1 5 0 ∷ []) (refused 5 0)
     ∷ gives (0 halt ∷ event 0 5 0 ∷ []) (refused 5 1)
     ∷ gives (0 halt ∷ 0 read 1 ∷ []) (refused 6 1)

@@ -1,5 +1,5 @@
 -- The runs of document 01 that are marked † ("Runs to go by"), as one table of trace and outcome, judged by the very function that the judge's contract
--- cites; and those that tell a judge that deceives. Assumes nothing.
+-- cites; those that tell a judge that deceives; and those that tell another table of joins. Assumes nothing.
 use Prim.Native.Nat.{ℕ, _+_}
 use mathlib.Core.List.{List, [], _∷_, _++_, map}
 use lib.ListN.{length, drop, replicate}
@@ -41,9 +41,9 @@ pub record Example : Type 0 where
   pub second : List ℕ
   pub outcome : Outcome
 
--- The cells to spare, a trace, its answer past rows 1 to 4, and the two orders that it leaves (none but after a race).
-abbrev pub example : ℕ → List Event → Reply Verdict → List ℕ → List ℕ → Example
-example spare events answer order₁ order₂ =
+-- The cells to spare, a trace, its answer past rows 1 to 4, the links beside it, and the two orders that it leaves (none but after a race).
+abbrev pub example : ℕ → List Event → Reply Verdict → ℕ → List ℕ → List ℕ → Example
+example spare events answer links order₁ order₂ =
     let n = length events in
     record {
       kinds = map (λ e. e .kind) events;
@@ -55,18 +55,22 @@ example spare events answer order₁ order₂ =
       outcome =
           record {
             answer = answer;
+            links = links;
             workspace = replicate (WORKSPACE-CELLS + n) 0 ++ replicate spare 9;
             first = order₁ ++ drop (length order₁) (lentFor spare n);
             second = order₂ ++ drop (length order₂) (lentFor spare n);
           };
     }
 
--- With one cell to spare:
+-- With one cell to spare; and, but for the next two, no links.
 abbrev pub gives : List Event → Reply Verdict → Example
-gives events answer = example 1 events answer [] []
+gives events answer = example 1 events answer 0 [] []
 
-abbrev races : List Event → ℕ → ℕ → List ℕ → List ℕ → Example
-races events s t order₁ order₂ = example 1 events (says (race s t)) order₁ order₂
+abbrev pub joins : List Event → ℕ → Example
+joins events links = example 1 events (says clean) links [] []
+
+abbrev races : List Event → ℕ → ℕ → ℕ → List ℕ → List ℕ → Example
+races events s t links order₁ order₂ = example 1 events (says (race s t)) links order₁ order₂
 
 unfoldable pub runs : List Example
 runs =
@@ -76,16 +80,17 @@ runs =
     ∷ gives (0 fork 1023 ∷ []) (says clean)
     ∷ gives (0 fork 1024 ∷ []) (refused 9 0)
     ∷ gives (0 fork 1 ∷ 1 read 5 ∷ 1 halt ∷ 0 read 5 ∷ []) (says clean)
-    ∷ races (0 fork 1 ∷ 1 read 5 ∷ 1 halt ∷ 0 write 5 ∷ []) 1 3 (0 ∷ 1 ∷ 3 ∷ 2 ∷ []) (0 ∷ 3 ∷ 1 ∷ 2 ∷ [])
-    ∷ races (0 fork 1 ∷ 1 write 5 ∷ 1 write 5 ∷ 1 halt ∷ 0 read 5 ∷ []) 1 4 (0 ∷ 1 ∷ 4 ∷ 2 ∷ 3 ∷ []) (0 ∷ 4 ∷ 1 ∷ 2 ∷ 3 ∷ [])
+    ∷ races (0 fork 1 ∷ 1 read 5 ∷ 1 halt ∷ 0 write 5 ∷ []) 1 3 0 (0 ∷ 1 ∷ 3 ∷ 2 ∷ []) (0 ∷ 3 ∷ 1 ∷ 2 ∷ [])
+    ∷ races (0 fork 1 ∷ 1 write 5 ∷ 1 write 5 ∷ 1 halt ∷ 0 read 5 ∷ []) 1 4 0 (0 ∷ 1 ∷ 4 ∷ 2 ∷ 3 ∷ []) (0 ∷ 4 ∷ 1 ∷ 2 ∷ 3 ∷ [])
     ∷ gives (0 fork 1 ∷ 1 halt ∷ 0 fork 2 ∷ 2 halt ∷ 0 join 1 ∷ []) (refused 11 4)
-    ∷ gives (0 fork 1 ∷ 1 halt ∷ 0 fork 2 ∷ 2 halt ∷ 0 join 2 ∷ 0 join 1 ∷ []) (says clean)
+    ∷ joins (0 fork 1 ∷ 1 halt ∷ 0 fork 2 ∷ 2 halt ∷ 0 join 2 ∷ 0 join 1 ∷ []) 1
     ∷ races (0 fork 1 ∷ 1 read 7 ∷ 1 halt ∷ 0 read 7 ∷ 0 fork 2 ∷ 2 join 1 ∷ 2 halt ∷ 0 write 7 ∷ [])
     1
     7
+    1
     (0 ∷ 3 ∷ 4 ∷ 1 ∷ 7 ∷ 2 ∷ 5 ∷ 6 ∷ [])
     (0 ∷ 3 ∷ 4 ∷ 7 ∷ 1 ∷ 2 ∷ 5 ∷ 6 ∷ [])
-    ∷ gives (0 fork 1 ∷ 1 read 7 ∷ 1 halt ∷ 0 read 7 ∷ 0 fork 2 ∷ 2 join 1 ∷ 2 halt ∷ 0 join 2 ∷ 0 write 7 ∷ []) (says clean)
+    ∷ joins (0 fork 1 ∷ 1 read 7 ∷ 1 halt ∷ 0 read 7 ∷ 0 fork 2 ∷ 2 join 1 ∷ 2 halt ∷ 0 join 2 ∷ 0 write 7 ∷ []) 1
     ∷ []
 
 -- What two of the "Judges that deceive" get wrong: one that remembers only the last reader, and one that takes a paused parent's accesses before the fork
@@ -95,12 +100,40 @@ deceivers =
     races (0 fork 1 ∷ 1 read 5 ∷ 1 halt ∷ 0 fork 2 ∷ 2 read 5 ∷ 2 halt ∷ 0 join 2 ∷ 0 write 5 ∷ [])
     1
     7
+    1
     (0 ∷ 3 ∷ 4 ∷ 5 ∷ 6 ∷ 1 ∷ 7 ∷ 2 ∷ [])
     (0 ∷ 3 ∷ 4 ∷ 5 ∷ 6 ∷ 7 ∷ 1 ∷ 2 ∷ [])
     ∷ gives (0 write 5 ∷ 0 fork 1 ∷ 1 write 5 ∷ []) (says clean)
     ∷ []
 
--- The judge's outcome for what is lent, and the one that document 01 names.
+-- ---- the table of joins (document 02, K2)
+
+-- Task x forks the task a, which halts at once and is joined.
+abbrev leaf : ℕ → ℕ → List Event
+leaf x a = x fork a ∷ a halt ∷ x join a ∷ []
+
+-- Task x has a star of four tasks: three hang under it, by one link each.
+abbrev star : ℕ → ℕ → List Event
+star x a = leaf x a ++ leaf x (a + 1) ++ leaf x (a + 2)
+
+-- Task x forks the task a, which gets a pair, one task under the other, and halts.
+abbrev pair : ℕ → ℕ → List Event
+pair x a = x fork a ∷ leaf a (a + 1) ++ (a halt ∷ [])
+
+-- Two joins of trees of four tasks each, a star and two pairs made one, which have 1 and 2 links: the joiner's top stays. Then a star of five tasks: it goes by
+-- tasks and not by links, so the two pairs hang under it. Then a joiner whose top is another task: its tree is smaller than the one it joins, then as large. Then
+-- a race, which the join after it does not count for, and a refusal.
+unfoldable pub chains : List Example
+chains =
+    joins (pair 0 1 ++ (0 fork 3 ∷ leaf 3 4 ++ (3 join 1 ∷ 3 halt ∷ star 0 5 ++ (0 join 3 ∷ [])))) 3
+    ∷ joins (0 fork 1 ∷ star 1 2 ++ (1 halt ∷ pair 0 5 ++ (leaf 0 7 ++ (0 join 5 ∷ 0 join 1 ∷ [])))) 2
+    ∷ joins (pair 0 1 ++ (0 fork 3 ∷ leaf 3 4 ++ (3 join 1 ∷ 3 halt ∷ star 0 5 ++ (leaf 0 8 ++ (0 join 3 ∷ []))))) 3
+    ∷ joins (0 fork 1 ∷ leaf 1 2 ++ (leaf 1 3 ++ (1 halt ∷ pair 0 4 ++ (0 join 4 ∷ 0 join 1 ∷ [])))) 2
+    ∷ races (0 fork 1 ∷ 1 write 5 ∷ 1 halt ∷ 0 read 5 ∷ 0 join 1 ∷ []) 1 3 0 (0 ∷ 1 ∷ 3 ∷ 2 ∷ []) (0 ∷ 3 ∷ 1 ∷ 2 ∷ [])
+    ∷ gives (leaf 0 1 ++ (0 write 1024 ∷ [])) (refused 8 3)
+    ∷ []
+
+-- The judge's outcome for what is lent, and the one that is named.
 unfoldable pub judged : Example → Outcome
 judged e = judgeOutcome (e .kinds) (e .tasks) (e .operands) (e .workspace) (e .first) (e .second)
 

@@ -1,6 +1,6 @@
 -- Bounded searches over positions; and the relations of `Graph` and `Race` as tests, each by such a search. The theorems in `proofs/` say that each test is
 -- its relation. Assumes nothing.
-use Prim.Native.Nat.{ℕ, zero, suc, _+_}
+use Prim.Native.Nat.{ℕ, zero, suc, _+_, max}
 use mathlib.Core.Bool.{Bool, true, false, cond, not, _&&_, _||_}
 use mathlib.Core.Option.{Option, none, some}
 use lib.Dec.{eqb, ltb}
@@ -32,6 +32,11 @@ bit false = 0
 unfoldable pub countBelow : ℕ → (ℕ → Bool) → ℕ
 countBelow zero test = 0
 countBelow (suc n) test = bit (test n) + countBelow n test
+
+-- The largest of the numbers that f has below n; 0 where n is 0.
+unfoldable pub largestBelow : ℕ → (ℕ → ℕ) → ℕ
+largestBelow zero f = 0
+largestBelow (suc n) f = max (f n) (largestBelow n f)
 
 module _ (tr : Trace) where
   -- q is the next event of p's task.

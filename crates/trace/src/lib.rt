@@ -33,11 +33,11 @@ pub struct Refusal {
     pub position: usize,
 }
 
-// What the judge of a whole trace answers.
+// What the judge of a whole trace answers. With clean and race also the largest number of links between a task and its top in the table of joins.
 pub enum Answer {
-    Clean,
-    // The positions s and t of the pair.
-    Race(usize, usize),
+    Clean(usize),
+    // The positions s and t of the pair, then the links.
+    Race(usize, usize, usize),
     Refused(Refusal),
 }
 

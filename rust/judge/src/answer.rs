@@ -13,7 +13,7 @@ pub fn judged(recording: &Recording) -> Answer {
 /// The answer's own line, as the program `racejudge` prints it, for a trace of so many events.
 pub fn line(answer: &Answer, events: usize) -> String {
     match answer {
-        Ok(Verdict::Clean) => format!("clean {events}"),
+        Ok(Verdict::Clean { .. }) => format!("clean {events}"),
         Ok(Verdict::Race { s, t, .. }) => format!("race {s} {t}"),
         Err(refusal) => refused(refusal),
     }

@@ -19,7 +19,7 @@ use crate::recording::Recording;
 use crate::study::{Question, Scene, Study};
 use page::Page;
 use race::Race;
-use racejudge::Verdict;
+use racejudge::{Verdict, MAX_LINKS};
 
 /// The proved answer's line, and what it means. The orders of a race are shown whole where that is
 /// wanted.
@@ -27,8 +27,8 @@ pub fn judged(study: &Study, whole: bool) -> String {
     let mut page = Page::default();
     page.add(&study.line());
     match (&study.answer, &study.scene) {
-        (Ok(Verdict::Clean), Some(scene)) => clean(&mut page, scene),
-        (Ok(Verdict::Race { s, t, first, second }), Some(scene)) => {
+        (Ok(Verdict::Clean { .. }), Some(scene)) => clean(&mut page, scene),
+        (Ok(Verdict::Race { s, t, first, second, .. }), Some(scene)) => {
             let (orders, why) = ([&first[..], &second[..]], study.why.as_ref());
             let race = Race { s: *s, t: *t, orders, why, broken: study.broken, whole };
             race.tell(&mut page, scene);
@@ -45,6 +45,24 @@ pub fn judged(study: &Study, whole: bool) -> String {
         (Ok(_), None) => {}
     }
     page.text()
+}
+
+/// How long the chains of the table of joins are: a paragraph behind what is said of a file.
+pub fn links(study: &Study) -> String {
+    let links = study.answer.as_ref().map(Verdict::links);
+    let told = match links {
+        Err(_) => "no links are counted in a file that is refused.".to_string(),
+        Ok(0) => "no task is joined, so each is the top of a tree of its own.".to_string(),
+        Ok(links) => format!(
+            "at most {} {} from a task to the top of its tree. A join hangs the smaller tree under \
+             the larger, so there are never more than {MAX_LINKS}.",
+            count(links, "link"),
+            if links == 1 { "leads" } else { "lead" },
+        ),
+    };
+    let mut page = Page::default();
+    page.add(&format!("Joins: {told}"));
+    format!("\n{}", page.text())
 }
 
 fn clean(page: &mut Page, scene: &Scene) {

@@ -85,6 +85,7 @@ fn head(line: String, scene: Option<&Scene>) -> Fields {
 /// What every file has that was judged.
 fn answered(study: &Study) -> Fields {
     let mut fields = head(study.line(), study.scene.as_ref());
+    fields.push(("links", study.answer.as_ref().map_or(0, Verdict::links).into()));
     fields.extend(match &study.answer {
         Err(refusal) => refused(study.recording, study.scene.as_ref(), refusal),
         answer => race(answer, study),
@@ -93,7 +94,8 @@ fn answered(study: &Study) -> Fields {
 }
 
 fn race(answer: &Answer, study: &Study) -> Fields {
-    let (Ok(Verdict::Race { s, t, first, second }), Some(scene)) = (answer, &study.scene) else {
+    let (Ok(Verdict::Race { s, t, first, second, .. }), Some(scene)) = (answer, &study.scene)
+    else {
         return Vec::new();
     };
     vec![

@@ -32,7 +32,7 @@ pub enum Status {
 impl Status {
     fn of(answer: &Answer) -> Status {
         match answer {
-            Ok(Verdict::Clean) => Status::Good,
+            Ok(Verdict::Clean { .. }) => Status::Good,
             Ok(Verdict::Race { .. }) => Status::Bad,
             Err(_) => Status::Refused,
         }

@@ -85,9 +85,10 @@ Events count from 0.
 #[test]
 fn a_clean_object_has_the_fields_of_the_judge_and_the_cards() {
     let object = object(&[], CLEAN);
-    assert_eq!(object.names(), ["answer", "cards", "events", "file", "said", "tasks"]);
+    assert_eq!(object.names(), ["answer", "cards", "events", "file", "links", "said", "tasks"]);
     assert_eq!(object.field("said").text(), "clean 8");
-    assert_eq!((object.field("events").number(), object.field("tasks").number()), (8, 2));
+    let numbers = ["events", "tasks", "links"].map(|name| object.field(name).number());
+    assert_eq!(numbers, [8, 2, 1]);
     let cards = [
         r#"{"location":0,"reads":1,"writes":0,"first":7,"last":7,"first_line":7,"last_line":7}"#,
         r#"{"location":7,"reads":1,"writes":2,"first":1,"last":6,"first_line":2,"last_line":6}"#,

@@ -138,6 +138,7 @@ fn a_wrong_command_line_is_told() {
     wrong_usage(&["cards", "-", "/dev/stdin"], twice);
     wrong_usage(&["cards", "--busy", text], "there is no option --busy");
     wrong_usage(&["cards", "--orders", text], "there is no option --orders");
+    wrong_usage(&["cards", "--links", text], "there is no option --links");
     wrong_usage(&["cards", "--svg", &picture, text], "there is no option --svg");
     wrong_usage(&["--busiest", text], "there is no option --busiest");
 }
@@ -149,7 +150,10 @@ fn help_and_version_are_printed() {
     assert_eq!((said.status, said.out, said.err), (0, version, String::new()));
     let help = run(["--help"]);
     assert_eq!((help.status, help.err.as_str()), (0, ""));
-    assert_eq!(help.out.lines().nth(2), Some("judge [--json] [--svg FILE] [--orders] FILE..."));
+    assert_eq!(
+        help.out.lines().nth(2),
+        Some("judge [--json] [--svg FILE] [--orders] [--links] FILE...")
+    );
     for (word, usage) in [("order", "[--json] FILE P Q"), ("cards", "[--busiest] [--json] FILE...")]
     {
         let line = format!("judge {word} {usage}");

@@ -53,8 +53,8 @@ fn a_race_has_all_its_fields() {
     let [race] = &objects(&said.out)[..] else { panic!("{said:?}") };
     assert_eq!((said.status, said.err.as_str()), (1, ""));
     let names = [
-        "answer", "broken", "events", "file", "first", "location", "s", "said", "second", "t",
-        "tasks", "why",
+        "answer", "broken", "events", "file", "first", "links", "location", "s", "said", "second",
+        "t", "tasks", "why",
     ];
     assert_eq!(race.names(), names);
     assert_eq!(race.field("file").text(), path.to_str().unwrap());
@@ -110,6 +110,7 @@ fn a_refusal_has_the_event_or_the_line() {
             "event",
             "events",
             "file",
+            "links",
             "meaning",
             "position",
             "row",
@@ -121,6 +122,7 @@ fn a_refusal_has_the_event_or_the_line() {
         assert_eq!(refusal.names(), names);
         assert_eq!(refusal.field("answer").text(), "refused");
         assert_eq!(refusal.field("position").number(), 1);
+        assert_eq!(refusal.field("links").number(), 0);
     }
     assert_eq!(event.field("row").number(), 8);
     assert_eq!(event.field("meaning").text(), "the location is above 1,023");

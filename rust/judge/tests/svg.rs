@@ -336,7 +336,7 @@ fn a_cut_race_keeps_what_it_needs() {
 #[test]
 fn a_long_clean_run_shows_its_beginning() {
     let drawn = Drawn::new(from_bench(&workloads::pipeline(2_000, &mut Rng::new(1))), "long");
-    assert!(matches!(drawn.answer, Ok(Verdict::Clean)));
+    assert!(matches!(drawn.answer, Ok(Verdict::Clean { .. })));
     let shown = drawn.events().len();
     assert!(drawn.events().iter().map(|(p, _)| *p).eq(0..shown));
     assert!(shown >= 20);
@@ -387,9 +387,9 @@ fn wrong_answers_are_drawn_without_harm() {
         });
         let n = trace.len() + 3;
         let (s, t) = (rng.below(n), rng.below(n));
-        let race = Ok(Verdict::Race { s, t, first: Vec::new(), second: Vec::new() });
+        let race = Ok(Verdict::Race { s, t, links: 0, first: Vec::new(), second: Vec::new() });
         let refused = Err(Refusal { row: rng.below(17), position: rng.below(n) });
-        for answer in [race, refused, Ok(Verdict::Clean)] {
+        for answer in [race, refused, Ok(Verdict::Clean { links: 0 })] {
             let drawn = Drawn::told(trace.clone(), answer, "wrong");
             let graph = Graph::new(&trace, rng.below(n));
             let why = Why {

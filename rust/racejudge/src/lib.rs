@@ -21,7 +21,7 @@
 //! assert_eq!(events, ["0 fork 1", "1 write 5", "1 halt", "0 read 5"]);
 //!
 //! // Events 1 and 3 race. Two orders of the events differ only in which of them comes first.
-//! let Verdict::Race { s, t, first, second } = judge(&trace)? else { panic!("a race") };
+//! let Verdict::Race { s, t, first, second, .. } = judge(&trace)? else { panic!("a race") };
 //! assert_eq!((s, t), (1, 3));
 //! assert_eq!((first, second), (vec![0, 1, 3, 2], vec![0, 3, 1, 2]));
 //! assert!(!reaches(&trace, s, t)?);
@@ -30,9 +30,10 @@
 //! let sources = [s, t].map(|p| trace.place(p).map(|place| place.source));
 //! assert_eq!(sources, [Some(20), Some(30)]);
 //!
-//! // With task 1 joined before the read there is a path, and no race.
+//! // With task 1 joined before the read there is a path, and no race. In the table of joins task 1
+//! // hangs under task 0, by one link.
 //! let joined = Trace::from_text("T0|fork(T1)|10\nT1|w(V5)|20\nT0|join(T1)|25\nT0|r(V5)|30\n")?;
-//! assert_eq!(judge(&joined)?, Verdict::Clean);
+//! assert_eq!(judge(&joined)?, Verdict::Clean { links: 1 });
 //! assert!(reaches(&joined, 1, 4)?);
 //!
 //! // What the clean trace does to location 5.
@@ -49,6 +50,13 @@
 //! again. After the halt of task 0 no event follows. A join takes the task immediately left of the
 //! running one out of the line. A trace may end anywhere. One that breaks a rule is refused, with
 //! the number of the rule and the event's position: [`Refusal`].
+//!
+//! # The table of joins
+//!
+//! It puts the tasks in trees, each task in one of its own at the start. A join makes one of the
+//! joiner's tree and the joined task's: it hangs the top of the smaller, by number of tasks, under
+//! the top of the larger; at equal size the joiner's top stays on top. How many links lead from a
+//! task to its top, at the most, [`Verdict::links`] has; never more than [`MAX_LINKS`].
 //!
 //! # What there is
 //!
@@ -84,6 +92,9 @@ pub const TASKS: usize = 1_024;
 
 /// Locations go from 0 to one below this.
 pub const LOCATIONS: usize = 1_024;
+
+/// In the table of joins no more links than these lead from a task to the top of its tree.
+pub const MAX_LINKS: usize = 10;
 
 /// The most events that a text may make, implied halts included.
 pub const MAX_TEXT_EVENTS: usize = 2_048;

@@ -8,10 +8,10 @@
 //!
 //! let (mut workspace, mut first, mut second) = ([0; raw::WORKSPACE + 1], [0; 1], [0; 1]);
 //! let told = raw::judge(&[0], &[0], &[5], &mut workspace, &mut first, &mut second);
-//! assert_eq!((told.code, told.values), (raw::CLEAN, [0, 0]));
+//! assert_eq!((told.code, told.values), (raw::CLEAN, [0, 0, 0]));
 //!
 //! let told = raw::judge(&[0], &[0], &[5], &mut [], &mut first, &mut second);
-//! assert_eq!((told.code, told.values), (raw::REFUSED, [3, 0]));
+//! assert_eq!((told.code, told.values), (raw::REFUSED, [3, 0, 0]));
 //! ```
 
 use crate::Card;
@@ -19,15 +19,19 @@ use crate::Card;
 /// The file name of the archive that is linked.
 pub const ARCHIVE: &str = env!("RACEJUDGE_ARCHIVE");
 
+/// The version of the C interface. An archive of version 1 links as well, and leaves the judge's
+/// third value unset.
+pub const VERSION: u32 = 2;
+
 /// The workspace has at least this many cells more than the trace has events.
 pub const WORKSPACE: usize = 12_288;
 
 /// The first and the last position on the card of a location that no event touches.
 pub const NOWHERE: u16 = u16::MAX;
 
-/// The judge: no race, and the rules are kept.
+/// The judge: no race, and the rules are kept; the third value is the number of links.
 pub const CLEAN: u64 = 0;
-/// The judge: a race; the values are its two positions.
+/// The judge: a race; the values are its two positions and the number of links.
 pub const RACE: u64 = 1;
 /// The ordering call: no path.
 pub const NO: u64 = 0;
@@ -35,25 +39,27 @@ pub const NO: u64 = 0;
 pub const YES: u64 = 1;
 /// The translation: a trace; the first value is the number of its events.
 pub const TRANSLATED: u64 = 0;
-/// All calls: a refusal; the values are its row and position.
+/// All calls: a refusal; the first two values are its row and position, any other is 0.
 pub const REFUSED: u64 = 2;
 /// The translation: a slice has fewer than [`MAX_TEXT_EVENTS`](crate::MAX_TEXT_EVENTS) cells.
 pub const SHORT: u64 = 3;
 
-/// What a call tells: the code that it returns and the two values that it stores.
+/// What a call tells: the code that it returns and the values that it stores, three of the judge and
+/// two of the others.
 #[derive(Clone, Copy, Debug, PartialEq, Eq)]
-pub struct Told {
+pub struct Told<const VALUES: usize> {
     /// What the call returns.
     pub code: u64,
-    /// What it stores: [`u64::MAX`] twice where it stores nothing, as no call of the library does.
-    pub values: [u64; 2],
+    /// What it stores: [`u64::MAX`] where it stores nothing, as no call of the library does.
+    pub values: [u64; VALUES],
 }
 
 /// What a call tells that is handed the slices, those that it reads and those that it writes, each
-/// as a pointer and a length, then the rest, and last where it stores its two values.
+/// as a pointer and a length, then the rest, and last where it stores its values: as many cells as
+/// its type has.
 macro_rules! told {
     ($call:ident, [$($read:ident),*], [$($written:ident),*] $(, $rest:expr)*) => {{
-        let mut values = [u64::MAX; 2];
+        let mut values = std::array::from_fn(|_| u64::MAX);
         let code = unsafe {
             $call(
                 $($read.as_ptr(), $read.len(),)*
@@ -86,7 +92,7 @@ macro_rules! foreign {
             first: *mut u16, first_len: usize,
             second: *mut u16, second_len: usize,
             $($more)*
-            values: *mut [u64; 2],
+            values: *mut [u64; 3],
         ) }
     };
     (ordering $($declared:tt)*) => {
@@ -147,7 +153,7 @@ pub fn judge(
     workspace: &mut [u16],
     first: &mut [u16],
     second: &mut [u16],
-) -> Told {
+) -> Told<3> {
     // Safe: the library's own function keeps within what it is lent, whatever that holds.
     unsafe { judge_by(racejudge_judge, kinds, tasks, operands, workspace, first, second) }
 }
@@ -167,7 +173,7 @@ pub fn judge(
 /// assert_eq!(cards[5], Card { reads: 1, writes: 0, first: 0, last: 0 });
 ///
 /// let told = judge_lent(&mut cards[1..]);
-/// assert_eq!((told.code, told.values), (raw::REFUSED, [16, 0]));
+/// assert_eq!((told.code, told.values), (raw::REFUSED, [16, 0, 0]));
 /// ```
 pub fn judge_cards(
     kinds: &[u8],
@@ -177,7 +183,7 @@ pub fn judge_cards(
     first: &mut [u16],
     second: &mut [u16],
     cards: &mut [Card],
-) -> Told {
+) -> Told<3> {
     // Safe, as in `judge`.
     told!(racejudge_judge_cards, [kinds, tasks, operands], [workspace, first, second, cards])
 }
@@ -190,13 +196,18 @@ pub fn ordering(
     workspace: &mut [u16],
     p: usize,
     q: usize,
-) -> Told {
+) -> Told<2> {
     // Safe, as in `judge`.
     unsafe { ordering_by(racejudge_ordering, kinds, tasks, operands, workspace, p, q) }
 }
 
 /// Text to a trace, whose events are stored at the start of the three slices.
-pub fn translate(text: &[u8], kinds: &mut [u8], tasks: &mut [u16], operands: &mut [u16]) -> Told {
+pub fn translate(
+    text: &[u8],
+    kinds: &mut [u8],
+    tasks: &mut [u16],
+    operands: &mut [u16],
+) -> Told<2> {
     // Safe, as in `judge`.
     told!(racejudge_translate, [text], [kinds, tasks, operands])
 }
@@ -206,7 +217,8 @@ pub fn translate(text: &[u8], kinds: &mut [u8], tasks: &mut [u16], operands: &mu
 /// # Safety
 ///
 /// The function must be sound for slices of any contents and lengths, each given as a pointer and a
-/// length: it reads and writes within them alone, and writes only where the pointer is to `mut`.
+/// length: it reads and writes within them and the values alone, and writes only where the pointer
+/// is to `mut`.
 #[inline]
 pub unsafe fn judge_by(
     call: JudgeCall,
@@ -216,7 +228,7 @@ pub unsafe fn judge_by(
     workspace: &mut [u16],
     first: &mut [u16],
     second: &mut [u16],
-) -> Told {
+) -> Told<3> {
     told!(call, [kinds, tasks, operands], [workspace, first, second])
 }
 
@@ -234,6 +246,6 @@ pub unsafe fn ordering_by(
     workspace: &mut [u16],
     p: usize,
     q: usize,
-) -> Told {
+) -> Told<2> {
     told!(call, [kinds, tasks, operands], [workspace], p, q)
 }

@@ -38,9 +38,8 @@ enum Counted {
 impl Refusal {
     /// The refusal that a call told. What is no answer of that call is taken for one too, so that
     /// nothing passes for clean by mistake.
-    pub(crate) fn told(told: Told) -> Self {
-        let [row, position] = told.values.map(|value| value as usize);
-        Refusal { row, position }
+    pub(crate) fn told<const VALUES: usize>(told: Told<VALUES>) -> Self {
+        Refusal { row: told.values[0] as usize, position: told.values[1] as usize }
     }
 
     /// What the row refuses, as a clause.

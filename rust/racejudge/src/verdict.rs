@@ -9,19 +9,52 @@ pub enum Verdict {
     /// The rules are kept, and every two accesses that conflict are joined by a path: whatever
     /// order the cores take, each read sees the same write, and each location ends with the same
     /// last one.
-    Clean,
+    Clean {
+        /// The most links from a task to its top, after the last event: [`Verdict::links`].
+        links: usize,
+    },
     /// Two accesses of one location, at least one of them a write, with no path between them.
     Race {
         /// The smallest position that `t` races with.
         s: usize,
         /// The first access that races with an earlier one.
         t: usize,
+        /// The most links from a task to its top, after `t`: [`Verdict::links`].
+        links: usize,
         /// An order of the events 0 to `t` that the cores may take, in which `s` comes immediately
         /// before `t`.
         first: Vec<u16>,
         /// The same order with `t` immediately before `s`.
         second: Vec<u16>,
     },
+}
+
+impl Verdict {
+    /// How long the chains of the table of joins are, after the last event that was looked at: the
+    /// most links that lead from a task to the top of its tree.
+    ///
+    /// ```
+    /// use racejudge::{judge, Event, Trace};
+    ///
+    /// let mut trace = Trace::default();
+    /// trace.extend([Event::fork(0, 1), Event::fork(1, 2), Event::halt(2)]);
+    /// assert_eq!(judge(&trace)?.links(), 0);
+    ///
+    /// // Task 2 comes to hang under task 1, task 3 under task 0.
+    /// trace.extend([Event::join(1, 2), Event::halt(1)]);
+    /// trace.extend([Event::fork(0, 3), Event::halt(3), Event::join(0, 3)]);
+    /// assert_eq!(judge(&trace)?.links(), 1);
+    ///
+    /// // The two trees are of equal size: task 0, the joiner, stays on top, over task 1 and task 2.
+    /// trace.push(Event::join(0, 1));
+    /// assert_eq!(judge(&trace)?.links(), 2);
+    /// # Ok::<(), racejudge::Refusal>(())
+    /// ```
+    pub fn links(&self) -> usize {
+        match *self {
+            Verdict::Clean { links } | Verdict::Race { links, .. } => links,
+        }
+    }
 }
 
 /// Judges the whole trace: whether two of its accesses race.
@@ -31,7 +64,7 @@ pub enum Verdict {
 ///
 /// let mut trace = Trace::default();
 /// trace.extend([Event::fork(0, 1), Event::read(1, 5), Event::halt(1), Event::read(0, 5)]);
-/// assert_eq!(judge(&trace), Ok(Verdict::Clean));
+/// assert_eq!(judge(&trace), Ok(Verdict::Clean { links: 0 }));
 ///
 /// trace.push(Event::write(0, 5));
 /// assert!(matches!(judge(&trace), Ok(Verdict::Race { s: 1, t: 4, .. })));
@@ -50,13 +83,13 @@ pub fn judge(trace: &Trace) -> Result<Verdict, Refusal> {
         &mut first,
         &mut second,
     );
+    let [s, t, links] = told.values.map(|value| value as usize);
     match told.code {
-        raw::CLEAN => Ok(Verdict::Clean),
+        raw::CLEAN => Ok(Verdict::Clean { links }),
         raw::RACE => {
-            let [s, t] = told.values.map(|value| value as usize);
             first.truncate(t + 1);
             second.truncate(t + 1);
-            Ok(Verdict::Race { s, t, first, second })
+            Ok(Verdict::Race { s, t, links, first, second })
         }
         _ => Err(Refusal::told(told)),
     }

@@ -78,7 +78,7 @@ fn the_most_events_and_one_more() {
         let bytes = trace.to_binary().expect("slices of one length");
         judge(&Trace::from_binary(&bytes).expect("an undamaged trace"))
     };
-    assert_eq!(judged(MAX_EVENTS), Ok(Verdict::Clean));
+    assert_eq!(judged(MAX_EVENTS), Ok(Verdict::Clean { links: 0 }));
     assert_eq!(judged(MAX_EVENTS + 1), Err(Refusal { row: 2, position: 0 }));
 }
 

@@ -93,12 +93,12 @@ impl Lent {
         }
     }
 
-    fn judge(&mut self, trace: &Trace) -> Told {
+    fn judge(&mut self, trace: &Trace) -> Told<3> {
         let Lent { workspace, first, second, .. } = self;
         raw::judge(trace.kinds(), trace.tasks(), trace.operands(), workspace, first, second)
     }
 
-    fn judge_cards(&mut self, trace: &Trace) -> Told {
+    fn judge_cards(&mut self, trace: &Trace) -> Told<3> {
         let Lent { workspace, first, second, cards } = self;
         let (kinds, tasks, operands) = (trace.kinds(), trace.tasks(), trace.operands());
         raw::judge_cards(kinds, tasks, operands, workspace, first, second, cards)
@@ -146,6 +146,6 @@ fn rows_1_to_4_come_before_row_16() {
 fn refused(row: u64, trace: &Trace, mut lent: Lent) {
     let before = lent.clone();
     let told = lent.judge_cards(trace);
-    assert_eq!((told.code, told.values), (raw::REFUSED, [row, 0]));
+    assert_eq!((told.code, told.values), (raw::REFUSED, [row, 0, 0]));
     assert!(lent == before, "row {row} changed what was lent");
 }

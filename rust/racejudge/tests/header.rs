@@ -1,6 +1,6 @@
 //! The numbers of the C header, which the bindings have to say once more.
 
-use racejudge::{raw, Card, Kind, LOCATIONS, MAX_EVENTS, MAX_TEXT_EVENTS, TEXT_BYTES};
+use racejudge::{raw, Card, Kind, LOCATIONS, MAX_EVENTS, MAX_LINKS, MAX_TEXT_EVENTS, TEXT_BYTES};
 use std::mem::offset_of;
 
 const HEADER: &str = include_str!("../../../include/racejudge.h");
@@ -10,7 +10,9 @@ fn says(words: String) {
 }
 
 #[test]
-fn limits() {
+fn version_and_limits() {
+    says(format!("#define RACEJUDGE_VERSION {}\n", raw::VERSION));
+    says(format!("#define RACEJUDGE_MAX_LINKS {MAX_LINKS}\n"));
     says(format!("#define RACEJUDGE_MAX_EVENTS {MAX_EVENTS}\n"));
     says(format!("#define RACEJUDGE_TEXT_EVENTS {MAX_TEXT_EVENTS}\n"));
     says(format!("#define RACEJUDGE_WORKSPACE {}\n", raw::WORKSPACE));
@@ -33,6 +35,25 @@ fn a_card() {
     assert!(places.eq(fields.map(|(_, place)| place)));
     let names = fields.map(|(name, _)| name).join(", ");
     says(format!("typedef struct racejudge_card {{\n    uint16_t {names};\n}} racejudge_card;"));
+}
+
+/// Each call stores as many values as it is given cells.
+#[test]
+fn values() {
+    let stored = [
+        ("judge", raw::judge(&[], &[], &[], &mut [], &mut [], &mut []).values.len()),
+        (
+            "judge_cards",
+            raw::judge_cards(&[], &[], &[], &mut [], &mut [], &mut [], &mut []).values.len(),
+        ),
+        ("ordering", raw::ordering(&[], &[], &[], &mut [], 0, 0).values.len()),
+        ("translate", raw::translate(&[], &mut [], &mut [], &mut []).values.len()),
+    ];
+    for (call, cells) in stored {
+        let prototype = HEADER.split(&format!("uint64_t racejudge_{call}(")).nth(1);
+        let parameters = prototype.and_then(|it| it.split(')').next()).unwrap_or_default();
+        assert!(parameters.ends_with(&format!("uint64_t values[{cells}]")), "{call}: {parameters}");
+    }
 }
 
 #[test]

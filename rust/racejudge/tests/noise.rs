@@ -1,6 +1,8 @@
 //! Whatever comes in, something is said of it, and nothing panics.
 
-use racejudge::{cards, judge, raw, reaches, Card, Event, Kind, Trace, Verdict, MAX_TEXT_EVENTS};
+use racejudge::{
+    cards, judge, raw, reaches, Card, Event, Kind, Trace, Verdict, MAX_LINKS, MAX_TEXT_EVENTS,
+};
 use racejudge_bench::rng::Rng;
 
 struct Noise(Rng);
@@ -40,7 +42,7 @@ impl Noise {
 /// Every question that there is about a trace; what is said holds together.
 fn asked(trace: &Trace, noise: &mut Noise) {
     let verdict = judge(trace);
-    if let Ok(Verdict::Race { s, t, first, second }) = &verdict {
+    if let Ok(Verdict::Race { s, t, first, second, .. }) = &verdict {
         assert!(s < t && *t < trace.len());
         for order in [first, second] {
             let mut sorted = order.clone();
@@ -50,11 +52,15 @@ fn asked(trace: &Trace, noise: &mut Noise) {
     }
     let far = [0, noise.below(trace.len() + 2), usize::MAX][noise.below(3)];
     let path = reaches(trace, noise.below(trace.len() + 1), far);
-    if verdict == Ok(Verdict::Clean) {
+    if let Ok(verdict) = &verdict {
+        let joins = trace.events().filter(|event| event.kind() == Some(Kind::Join)).count();
+        assert!(verdict.links() <= joins.min(MAX_LINKS));
+    }
+    if matches!(verdict, Ok(Verdict::Clean { .. })) {
         assert!(path.map_or_else(|refusal| refusal.row == 13, |_| true));
     }
     match (cards(trace), verdict) {
-        (Ok(Some(cards)), Ok(Verdict::Clean)) => {
+        (Ok(Some(cards)), Ok(Verdict::Clean { .. })) => {
             let accesses = trace.events().filter(|event| event.kind().is_some_and(Kind::is_access));
             assert_eq!(cards.iter().map(Card::accesses).sum::<usize>(), accesses.count());
         }

@@ -39,12 +39,12 @@ fn rows_1_and_2() {
 fn rows_3_and_4_which_only_a_lender_meets() {
     let (mut workspace, mut order) = ([7; raw::WORKSPACE], [7; 1]);
     let told = raw::judge(&[0], &[0], &[0], &mut workspace, &mut [7], &mut order);
-    assert_eq!((told.code, told.values), (raw::REFUSED, [3, 0]));
+    assert_eq!((told.code, told.values), (raw::REFUSED, [3, 0, 0]));
     let told = raw::ordering(&[0], &[0], &[0], &mut workspace, 0, 0);
     assert_eq!((told.code, told.values), (raw::REFUSED, [3, 0]));
     let mut workspace = [7; raw::WORKSPACE + 1];
     let told = raw::judge(&[0], &[0], &[0], &mut workspace, &mut [], &mut order);
-    assert_eq!((told.code, told.values), (raw::REFUSED, [4, 0]));
+    assert_eq!((told.code, told.values), (raw::REFUSED, [4, 0, 0]));
     assert_eq!((workspace, order), ([7; raw::WORKSPACE + 1], [7]));
 }
 
@@ -97,7 +97,7 @@ fn row_16_which_only_a_lender_of_cards_meets() {
     let (mut workspace, mut order) = ([7; raw::WORKSPACE + 1], [7; 1]);
     let mut few = [Card::UNTOUCHED; LOCATIONS - 1];
     let told = raw::judge_cards(&[0], &[0], &[0], &mut workspace, &mut [7], &mut order, &mut few);
-    assert_eq!((told.code, told.values), (raw::REFUSED, [16, 0]));
+    assert_eq!((told.code, told.values), (raw::REFUSED, [16, 0, 0]));
 }
 
 #[test]

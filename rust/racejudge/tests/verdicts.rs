@@ -12,8 +12,8 @@ const WRITES_TWICE: [Event; 5] =
 
 #[test]
 fn a_race_with_its_orders() {
-    let race =
-        Verdict::Race { s: 1, t: 4, first: vec![0, 1, 4, 2, 3], second: vec![0, 4, 1, 2, 3] };
+    let (first, second) = (vec![0, 1, 4, 2, 3], vec![0, 4, 1, 2, 3]);
+    let race = Verdict::Race { s: 1, t: 4, links: 0, first, second };
     assert_eq!(judge(&trace(&WRITES_TWICE)), Ok(race.clone()));
     // What follows decides nothing, be it against the rules.
     let mut longer = trace(&WRITES_TWICE);
@@ -23,13 +23,13 @@ fn a_race_with_its_orders() {
 
 #[test]
 fn clean_traces() {
-    assert_eq!(judge(&Trace::default()), Ok(Verdict::Clean));
-    assert_eq!(judge(&trace(&WRITES_TWICE[..4])), Ok(Verdict::Clean));
+    assert_eq!(judge(&Trace::default()), Ok(Verdict::Clean { links: 0 }));
+    assert_eq!(judge(&trace(&WRITES_TWICE[..4])), Ok(Verdict::Clean { links: 0 }));
     let mut joined = WRITES_TWICE;
     joined[4] = Event::join(0, 1);
     let mut joined = trace(&joined);
     joined.push(Event::write(0, 5));
-    assert_eq!(judge(&joined), Ok(Verdict::Clean));
+    assert_eq!(judge(&joined), Ok(Verdict::Clean { links: 1 }));
 }
 
 #[test]
@@ -48,11 +48,11 @@ fn as_many_events_as_a_trace_may_have() {
     let mut long = trace(&[Event::fork(0, 1)]);
     long.extend((0..MAX_EVENTS - 3).map(|_| Event::read(1, 5)));
     long.push(Event::halt(1));
-    assert_eq!(judge(&long), Ok(Verdict::Clean));
+    assert_eq!(judge(&long), Ok(Verdict::Clean { links: 0 }));
 
     long.push(Event::write(0, 5));
     assert_eq!(long.len(), MAX_EVENTS);
-    let Ok(Verdict::Race { s, t, first, second }) = judge(&long) else { panic!("a race") };
+    let Ok(Verdict::Race { s, t, first, second, .. }) = judge(&long) else { panic!("a race") };
     assert_eq!((s, t), (1, MAX_EVENTS - 1));
     let last = t as u16;
     for (order, start) in [(first, [0, 1, last]), (second, [0, last, 1])] {

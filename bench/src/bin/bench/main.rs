@@ -15,7 +15,7 @@ use racejudge_bench::ffi;
 use racejudge_bench::program::print;
 use racejudge_bench::rng::Rng;
 use racejudge_bench::words;
-use rows::Row;
+use rows::Rows;
 
 /// The matrix is timed on the first trace of a row only, and in the first rounds.
 const MATRIX_ROUNDS: usize = 3;
@@ -25,8 +25,8 @@ fn skip(peer: Peer, trace: usize, round: usize, matrix: bool) -> bool {
 }
 
 /// One round over all rows.
-fn go_round(peers: &mut Peers, rows: &mut [Row], round: usize, matrix: bool, rng: &mut Rng) {
-    for row in rows {
+fn go_round(peers: &mut Peers, rows: &mut Rows, round: usize, matrix: bool, rng: &mut Rng) {
+    for row in rows.all() {
         for trace in 0..row.traces() {
             let mut order = row.peers.to_vec();
             rng.shuffle(&mut order);
@@ -44,22 +44,11 @@ fn main() {
     let mut rng = Rng::new(1);
     let mut peers = Peers::new();
     print(&format!("judge: {}\n", ffi::LINKED));
-    let mut rows = rows::workloads(&mut peers, traces, &mut rng);
-    let growth = rows.len();
-    rows.extend(rows::growth(&mut peers, traces, &mut rng));
-    let ordering = rows.len();
-    rows.extend(rows::ordering(&mut peers, traces, &mut rng));
-    let cards = rows.len();
-    rows.extend(rows::cards(&mut peers, traces, &mut rng));
+    let mut rows = Rows::new(&mut peers, traces, &mut rng);
     print(&format!("all judges agree on every trace; {rounds} rounds\n"));
     for round in 0..rounds {
         go_round(&mut peers, &mut rows, round, matrix, &mut rng);
     }
-    let (workloads, growth) = (&rows[..growth], &rows[growth..ordering]);
-    let (ordering, cards) = (&rows[ordering..cards], &rows[cards..]);
-    print(&tables::workloads(workloads));
-    print(&tables::growth(growth));
-    print(&tables::ordering(ordering));
-    print(&tables::cards(cards));
-    print(&tables::summary(workloads, growth, ordering, cards));
+    print(&tables::all(&rows));
+    print(&tables::summary(&rows));
 }

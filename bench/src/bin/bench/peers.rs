@@ -3,9 +3,11 @@
 use racejudge_bench::ancestors::Ancestors;
 use racejudge_bench::cards::cards;
 use racejudge_bench::fasttrack::FastTrack;
-use racejudge_bench::ffi::{self, Judge, Record, Told, PROVED, TWO_ORDERS, UNION_FIND};
+use racejudge_bench::ffi::{self, Judge, Record, Told, BEFORE, PROVED, TWO_ORDERS, UNION_FIND};
+use racejudge_bench::joins::links;
 use racejudge_bench::program::mismatch;
 use racejudge_bench::trace::*;
+use std::fmt::Debug;
 use std::hint::black_box;
 use std::time::Instant;
 
@@ -22,6 +24,8 @@ pub enum Peer {
     Cards,
     /// The cards by hand.
     Pass,
+    /// An older judge, where one is linked.
+    Before,
 }
 
 /// Those that run on the traces of a table, in the order of its columns.
@@ -29,10 +33,12 @@ pub const JUDGING: [Peer; 6] =
     [Peer::Judge, Peer::TwoOrders, Peer::UnionFind, Peer::FastTrack, Peer::Ancestors, Peer::Floor];
 pub const ORDERING: [Peer; 4] = [Peer::Judge, Peer::TwoOrders, Peer::UnionFind, Peer::Floor];
 pub const CARDS: [Peer; 3] = [Peer::Cards, Peer::Judge, Peer::Pass];
+pub const CHAINS: [Peer; 3] = [Peer::Judge, Peer::TwoOrders, Peer::UnionFind];
+pub const AGAIN: [Peer; 2] = [Peer::Judge, Peer::Before];
 
 impl Peer {
     /// How many there are.
-    pub const COUNT: usize = Peer::Pass as usize + 1;
+    pub const COUNT: usize = Peer::Before as usize + 1;
 
     pub fn name(self) -> &'static str {
         match self {
@@ -44,6 +50,7 @@ impl Peer {
             Peer::Floor => "floor",
             Peer::Cards => "judge with cards",
             Peer::Pass => "pass C",
+            Peer::Before => "judge before",
         }
     }
 }
@@ -82,9 +89,10 @@ impl Peers {
         let start = Instant::now();
         for _ in 0..batch {
             match peer {
-                Peer::Judge => _ = black_box(self.call(&PROVED, call, trace)),
-                Peer::TwoOrders => _ = black_box(self.call(&TWO_ORDERS, call, trace)),
-                Peer::UnionFind => _ = black_box(self.call(&UNION_FIND, call, trace)),
+                Peer::Judge => self.call(&PROVED, call, trace),
+                Peer::TwoOrders => self.call(&TWO_ORDERS, call, trace),
+                Peer::UnionFind => self.call(&UNION_FIND, call, trace),
+                Peer::Before => self.call(&BEFORE.expect("one is linked"), call, trace),
                 // Safe: a builder made the trace, and keeps the rules.
                 Peer::FastTrack => _ = black_box(unsafe { self.fasttrack.first_race(trace) }),
                 Peer::Ancestors => _ = black_box(self.ancestors.answer(trace)),
@@ -97,31 +105,40 @@ impl Peers {
         start.elapsed().as_secs_f64() / batch as f64
     }
 
-    fn call(&mut self, judge: &Judge, call: Call, trace: &Trace) -> Told {
-        let Peers { workspace, first, second, .. } = self;
+    fn call(&mut self, judge: &Judge, call: Call, trace: &Trace) {
         match call {
-            Call::Judge => judge.judge(trace, workspace, first, second),
-            Call::Ordering(p, q) => judge.ordering(trace, workspace, p, q),
+            Call::Judge => _ = black_box(self.judge(judge, trace)),
+            Call::Ordering(p, q) => _ = black_box(self.ordering(judge, trace, p, q)),
         }
     }
 
-    fn call_with_cards(&mut self, trace: &Trace) -> Told {
+    fn judge(&mut self, judge: &Judge, trace: &Trace) -> Told<3> {
+        judge.judge(trace, &mut self.workspace, &mut self.first, &mut self.second)
+    }
+
+    fn ordering(&mut self, judge: &Judge, trace: &Trace, p: usize, q: usize) -> Told<2> {
+        judge.ordering(trace, &mut self.workspace, p, q)
+    }
+
+    fn call_with_cards(&mut self, trace: &Trace) -> Told<3> {
         let Peers { workspace, first, second, cards, .. } = self;
         ffi::judge_cards(trace, workspace, first, second, cards)
     }
 
     /// Before anything is measured the linked judges must say what is wanted and leave the same
     /// buffers.
-    fn linked_agree(&mut self, call: Call, trace: &Trace, wanted: Told) {
+    fn linked_agree<const VALUES: usize>(
+        &mut self,
+        trace: &Trace,
+        wanted: Told<VALUES>,
+        call: impl Fn(&mut Peers, &Judge) -> Told<VALUES>,
+    ) {
         let mut left = Vec::new();
         for judge in [&PROVED, &TWO_ORDERS, &UNION_FIND] {
             for buffer in [&mut self.workspace, &mut self.first, &mut self.second] {
                 buffer.fill(7);
             }
-            let told = self.call(judge, call, trace);
-            if told != wanted {
-                mismatch(&format!("{} said {told:?}, wanted {wanted:?}\non {trace}", judge.name));
-            }
+            said(judge.name, call(self, judge), wanted, trace);
             left.push((self.workspace.clone(), self.first.clone(), self.second.clone()));
             if left[0] != left[left.len() - 1] {
                 mismatch(&format!("{} left other buffers\non {trace}", judge.name));
@@ -131,7 +148,8 @@ impl Peers {
 
     /// All judges must give the expected answer.
     pub fn agree(&mut self, trace: &Trace, expected: Answer, matrix: bool) {
-        self.linked_agree(Call::Judge, trace, Told::from(expected));
+        let wanted = ffi::judged(expected, links(trace, expected));
+        self.linked_agree(trace, wanted, |peers, judge| peers.judge(judge, trace));
         let position = match expected {
             Answer::Clean => None,
             Answer::Race(_, t) => Some(t),
@@ -139,11 +157,9 @@ impl Peers {
         };
         // Safe: a builder made the trace, and keeps the rules.
         let race = unsafe { self.fasttrack.first_race(trace) };
-        if race != position {
-            mismatch(&format!("FastTrack said {race:?}, wanted {position:?}\non {trace}"));
-        }
-        if matrix && self.ancestors.answer(trace) != expected {
-            mismatch(&format!("the all-ancestors judge did not say {expected:?}\non {trace}"));
+        said("FastTrack", race, position, trace);
+        if matrix {
+            said("the all-ancestors judge", self.ancestors.answer(trace), expected, trace);
         }
     }
 
@@ -154,10 +170,10 @@ impl Peers {
         let wanted: Vec<Record> = cards(trace).into_iter().map(Record::from).collect();
         self.cards.fill(dirt);
         let told = self.call_with_cards(trace);
-        if told != Told::from(Answer::Clean) || self.cards != wanted {
-            mismatch(&format!(
-                "the judge with cards said {told:?} or made other cards\non {trace}"
-            ));
+        let clean = ffi::judged(Answer::Clean, links(trace, Answer::Clean));
+        said("the judge with cards", told, clean, trace);
+        if self.cards != wanted {
+            mismatch(&format!("the judge with cards made other cards\non {trace}"));
         }
         self.cards.fill(dirt);
         // Safe, as for FastTrack.
@@ -170,6 +186,18 @@ impl Peers {
     /// All judges must give the answer of the all-ancestors judge.
     pub fn agree_on_order(&mut self, trace: &Trace, p: usize, q: usize) {
         let wanted = self.ancestors.ordering(trace, self.workspace.len(), p, q).said;
-        self.linked_agree(Call::Ordering(p, q), trace, Told::from(wanted));
+        self.linked_agree(trace, wanted.into(), |peers, judge| peers.ordering(judge, trace, p, q));
+    }
+
+    /// The older judge must give the expected answer.
+    pub fn agree_before(&mut self, before: &Judge, trace: &Trace, expected: Answer) {
+        said(before.name, Answer::from(self.judge(before, trace)), expected, trace);
+    }
+}
+
+/// Ends the run where a judge does not say what is wanted.
+fn said<T: Debug + PartialEq>(name: &str, told: T, wanted: T, trace: &Trace) {
+    if told != wanted {
+        mismatch(&format!("{name} said {told:?}, wanted {wanted:?}\non {trace}"));
     }
 }

@@ -1,9 +1,12 @@
 //! The rows of the tables: traces of one kind, and the best time of each peer on each.
 
-use crate::peers::{Call, Peer, Peers, CARDS, JUDGING, ORDERING};
+use crate::peers::{Call, Peer, Peers, AGAIN, CARDS, CHAINS, JUDGING, ORDERING};
+use racejudge_bench::extent::Extent;
+use racejudge_bench::ffi::BEFORE;
+use racejudge_bench::joins::links;
 use racejudge_bench::rng::Rng;
 use racejudge_bench::trace::*;
-use racejudge_bench::workloads::{self, Make, Workload, WORKLOADS};
+use racejudge_bench::workloads::{self, Make, Workload, PAIRS, WORKLOADS};
 
 /// The sizes at which growth is measured.
 pub const SIZES: [usize; 5] = [1_024, 4_096, 8_192, 16_384, MAX_EVENTS];
@@ -60,6 +63,11 @@ impl Row {
         self.traces.len()
     }
 
+    /// How many tasks there are in a trace.
+    pub fn tasks(&self) -> usize {
+        Extent::of(&self.traces[0]).tasks
+    }
+
     pub fn measure(&mut self, peers: &mut Peers, peer: Peer, trace: usize) {
         let batch = if peer == Peer::Ancestors { 1 } else { self.batch };
         let time = peers.time(peer, self.call, &self.traces[trace], batch);
@@ -79,6 +87,35 @@ impl Row {
     }
 }
 
+/// Those of each table.
+pub struct Rows {
+    pub workloads: Vec<Row>,
+    pub growth: Vec<Row>,
+    pub ordering: Vec<Row>,
+    pub cards: Vec<Row>,
+    pub chains: Vec<Row>,
+    pub again: Vec<Row>,
+}
+
+impl Rows {
+    /// With so many traces of full size in each. All judges agree on them.
+    pub fn new(peers: &mut Peers, count: usize, rng: &mut Rng) -> Self {
+        Rows {
+            workloads: workloads(peers, count, rng),
+            growth: growth(peers, count, rng),
+            ordering: ordering(peers, count, rng),
+            cards: cards(peers, count, rng),
+            chains: chains(peers, count, rng),
+            again: again(peers, count, rng),
+        }
+    }
+
+    pub fn all(&mut self) -> impl Iterator<Item = &mut Row> {
+        let Rows { workloads, growth, ordering, cards, chains, again } = self;
+        [workloads, growth, ordering, cards, chains, again].into_iter().flatten()
+    }
+}
+
 fn traces(make: Make, n: usize, count: usize, rng: &mut Rng) -> Vec<Trace> {
     let traces: Vec<Trace> = (0..count).map(|_| make(n, rng)).collect();
     assert!(traces.iter().all(|trace| trace.is_empty() || trace.len() == n), "{n} events");
@@ -87,7 +124,7 @@ fn traces(make: Make, n: usize, count: usize, rng: &mut Rng) -> Vec<Trace> {
 
 /// Each workload at full size. The all-ancestors judge looks at small traces of every workload and
 /// at one of full size.
-pub fn workloads(peers: &mut Peers, count: usize, rng: &mut Rng) -> Vec<Row> {
+fn workloads(peers: &mut Peers, count: usize, rng: &mut Rng) -> Vec<Row> {
     let mut rows = Vec::new();
     for workload in &WORKLOADS {
         for n in [1_024, 2_048] {
@@ -106,7 +143,7 @@ pub fn workloads(peers: &mut Peers, count: usize, rng: &mut Rng) -> Vec<Row> {
 }
 
 /// Two workloads at each of the sizes, with as many events in all at each.
-pub fn growth(peers: &mut Peers, count: usize, rng: &mut Rng) -> Vec<Row> {
+fn growth(peers: &mut Peers, count: usize, rng: &mut Rng) -> Vec<Row> {
     let mut rows = Vec::new();
     let made: [(&str, Make); 2] =
         [("pipeline", workloads::pipeline), ("random", workloads::random)];
@@ -124,7 +161,7 @@ pub fn growth(peers: &mut Peers, count: usize, rng: &mut Rng) -> Vec<Row> {
 }
 
 /// The ordering call with q early, in the middle and late.
-pub fn ordering(peers: &mut Peers, count: usize, rng: &mut Rng) -> Vec<Row> {
+fn ordering(peers: &mut Peers, count: usize, rng: &mut Rng) -> Vec<Row> {
     let mut rows = Vec::new();
     let made: [(&str, Make); 3] = [
         ("pipeline", workloads::pipeline),
@@ -149,7 +186,7 @@ pub fn ordering(peers: &mut Peers, count: usize, rng: &mut Rng) -> Vec<Row> {
 }
 
 /// The clean workloads at full size, for cards.
-pub fn cards(peers: &mut Peers, count: usize, rng: &mut Rng) -> Vec<Row> {
+fn cards(peers: &mut Peers, count: usize, rng: &mut Rng) -> Vec<Row> {
     let clean = |workload: &&Workload| (workload.expected)(MAX_EVENTS) == Answer::Clean;
     let mut rows = Vec::new();
     for workload in WORKLOADS.iter().filter(clean) {
@@ -162,6 +199,41 @@ pub fn cards(peers: &mut Peers, count: usize, rng: &mut Rng) -> Vec<Row> {
             peers.agree_on_cards(trace);
         }
         rows.push(Row::new(workload.name, &CARDS, Call::Judge, traces, Answer::Clean));
+    }
+    rows
+}
+
+/// The workloads that differ in their chains, the one with the long chains of each pair first.
+fn chains(peers: &mut Peers, count: usize, rng: &mut Rng) -> Vec<Row> {
+    let mut rows = Vec::new();
+    for pair in &PAIRS {
+        for (make, wanted) in [(pair.long, MAX_LINKS), (pair.short, 1)] {
+            let traces = traces(make, MAX_EVENTS, count, rng);
+            for trace in &traces {
+                assert_eq!(links(trace, Answer::Clean), wanted, "{}", pair.name);
+                peers.agree(trace, Answer::Clean, false);
+            }
+            let row = Row::new(pair.name, &CHAINS, Call::Judge, traces, Answer::Clean);
+            rows.push(Row { detail: format!(", chains of {wanted}"), ..row });
+        }
+    }
+    rows
+}
+
+/// Each workload at full size once more, for the older judge; none where none is linked.
+fn again(peers: &mut Peers, count: usize, rng: &mut Rng) -> Vec<Row> {
+    let mut rows = Vec::new();
+    let Some(before) = &BEFORE else {
+        return rows;
+    };
+    for workload in &WORKLOADS {
+        let traces = traces(workload.make, MAX_EVENTS, count, rng);
+        let expected = (workload.expected)(MAX_EVENTS);
+        for trace in &traces {
+            peers.agree(trace, expected, false);
+            peers.agree_before(before, trace, expected);
+        }
+        rows.push(Row::new(workload.name, &AGAIN, Call::Judge, traces, expected));
     }
     rows
 }

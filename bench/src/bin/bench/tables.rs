@@ -1,8 +1,9 @@
 //! The tables, in Markdown with columns that line up, and the summary.
 
-use crate::peers::{Peer, CARDS, JUDGING, ORDERING};
-use crate::rows::{Row, SIZES};
+use crate::peers::{Peer, AGAIN, CARDS, CHAINS, JUDGING, ORDERING};
+use crate::rows::{Row, Rows, SIZES};
 use racejudge_bench::trace::MAX_EVENTS;
+use std::iter::once;
 
 /// The time of one peer over that of others, one after the other.
 #[derive(Clone, Copy)]
@@ -15,6 +16,7 @@ const TWO_ORDERS: Ratio = Ratio { of: Peer::Judge, over: &[Peer::TwoOrders] };
 const UNION_FIND: Ratio = Ratio { of: Peer::Judge, over: &[Peer::UnionFind] };
 const FASTTRACK: Ratio = Ratio { of: Peer::Judge, over: &[Peer::FastTrack] };
 const PASS: Ratio = Ratio { of: Peer::Cards, over: &[Peer::Judge, Peer::Pass] };
+const BEFORE: Ratio = Ratio { of: Peer::Judge, over: &[Peer::Before] };
 
 /// What the judge without cards is measured by.
 const MEASURES: [Ratio; 3] = [TWO_ORDERS, UNION_FIND, FASTTRACK];
@@ -35,11 +37,14 @@ impl Ratio {
 }
 
 /// Targets, each at most this: the time over that of the two orders in C, for both calls; over
-/// FastTrack's; that with cards over the judge's and the pass's; an event's in the longest trace
-/// over one's in the shortest, which would be 32 if growth were quadratic.
+/// FastTrack's; that with cards over the judge's and the pass's; the judge's with long chains over
+/// its own with short ones; over the older judge's, which told no links; an event's in the longest
+/// trace over one's in the shortest, which would be 32 if growth were quadratic.
 const OVER_TWO_ORDERS: f64 = 1.3;
 const OVER_FASTTRACK: f64 = 1.0;
 const OVER_PASS: f64 = 1.3;
+const OVER_SHORT_CHAINS: f64 = 1.25;
+const OVER_BEFORE: f64 = 1.25;
 const GROWTH: f64 = 2.0;
 
 /// The same over union-find's, on a workload of full length. None where the other algorithms stop
@@ -68,16 +73,22 @@ fn table(
     peers: &[Peer],
     ratios: &[Ratio],
 ) -> String {
-    let mut lines = vec![vec!["workload".to_string()]];
-    lines[0].extend(peers.iter().map(|peer| peer.name().to_string()));
-    lines[0].extend(ratios.iter().map(|ratio| ratio.name(ratio.of.name())));
+    let mut lines = vec![head(peers, ratios)];
     for row in rows {
-        let mut line = vec![row.label()];
-        line.extend(peers.iter().map(|&peer| two_places(time(row, peer))));
-        line.extend(ratios.iter().map(|ratio| two_places(ratio.in_row(row))));
-        lines.push(line);
+        let times = peers.iter().map(|&peer| time(row, peer));
+        lines.push(line(row.label(), times.chain(ratios.iter().map(|ratio| ratio.in_row(row)))));
     }
     format!("\n{title}\n\n{}", markdown(&lines))
+}
+
+fn head(peers: &[Peer], ratios: &[Ratio]) -> Vec<String> {
+    let names = peers.iter().map(|peer| peer.name().to_string());
+    let ratios = ratios.iter().map(|ratio| ratio.name(ratio.of.name()));
+    once("workload".to_string()).chain(names).chain(ratios).collect()
+}
+
+fn line(label: String, numbers: impl Iterator<Item = f64>) -> Vec<String> {
+    once(label).chain(numbers.map(two_places)).collect()
 }
 
 /// The first line is the head. The first column starts at the left, the others end at the right.
@@ -103,58 +114,98 @@ fn two_places(number: f64) -> String {
     format!("{number:.2}")
 }
 
-pub fn workloads(rows: &[Row]) -> String {
-    let title = "The judge on 32,768 events, microseconds a call:";
-    table(title, rows, Row::micros, &JUDGING, &MEASURES)
+pub fn all(rows: &Rows) -> String {
+    let Rows { workloads, growth, ordering, cards, again, .. } = rows;
+    let full = |call: &str| format!("{call} on 32,768 events, microseconds a call:");
+    let grown = "Growth of the judge, nanoseconds an event:";
+    let mut tables = vec![
+        table(&full("The judge"), workloads, Row::micros, &JUDGING, &MEASURES),
+        table(grown, growth, Row::nanos_an_event, &JUDGING, &MEASURES),
+        table(&full("The ordering call"), ordering, Row::micros, &ORDERING, &MEASURES[..2]),
+        table(&full("The judge with cards"), cards, Row::micros, &CARDS, &[PASS]),
+        chains(&full("Long chains and short"), &rows.chains),
+    ];
+    if !again.is_empty() {
+        let title = full("The judge and the one before");
+        tables.push(table(&title, again, Row::micros, &AGAIN, &[BEFORE]));
+    }
+    tables.concat()
 }
 
-pub fn growth(rows: &[Row]) -> String {
-    let title = "Growth of the judge, nanoseconds an event:";
-    table(title, rows, Row::nanos_an_event, &JUDGING, &MEASURES)
+const LONG_OVER_SHORT: &str = "chains of 10 / chains of 1";
+
+/// The rows come in pairs: beneath each the time of the first over that of the second.
+fn chains(title: &str, rows: &[Row]) -> String {
+    let mut lines = vec![head(&CHAINS, &[])];
+    for pair in rows.chunks(2) {
+        for row in pair {
+            lines.push(line(row.label(), CHAINS.iter().map(|&peer| row.micros(peer))));
+        }
+        let ratios = CHAINS.iter().map(|&peer| long_over_short(pair, peer));
+        lines.push(line(LONG_OVER_SHORT.to_string(), ratios));
+    }
+    format!("\n{title}\n\n{}", markdown(&lines))
 }
 
-pub fn ordering(rows: &[Row]) -> String {
-    let title = "The ordering call on 32,768 events, microseconds a call:";
-    table(title, rows, Row::micros, &ORDERING, &MEASURES[..2])
-}
-
-pub fn cards(rows: &[Row]) -> String {
-    let title = "The judge with cards on 32,768 events, microseconds a call:";
-    table(title, rows, Row::micros, &CARDS, &[PASS])
+fn long_over_short(pair: &[Row], peer: Peer) -> f64 {
+    pair[0].micros(peer) / pair[1].micros(peer)
 }
 
 /// A line for each target that tells whether it is met.
-pub fn summary(workloads: &[Row], growth: &[Row], ordering: &[Row], cards: &[Row]) -> String {
+pub fn summary(rows: &Rows) -> String {
+    let Rows { workloads, growth, ordering, cards, chains, again } = rows;
     let judged = workloads.iter().chain(growth).map(|row| (row, OVER_TWO_ORDERS));
     let ordered = ordering.iter().map(|row| (row, OVER_TWO_ORDERS));
     let full = workloads.iter().filter(|row| row.events == MAX_EVENTS);
     let unlike = full.filter_map(|row| Some((row, over_union_find(row.name)?)));
     let fasttrack = unlike.clone().map(|(row, _)| (row, OVER_FASTTRACK));
     let carded = cards.iter().map(|row| (row, OVER_PASS));
-    let lines = [
+    let chained = chains.chunks(2).map(|pair| Held {
+        ratio: long_over_short(pair, Peer::Judge),
+        target: OVER_SHORT_CHAINS,
+        label: pair[0].name.to_string(),
+    });
+    let mut lines = vec![
         ratios("judge", TWO_ORDERS, judged),
         ratios("ordering call", TWO_ORDERS, ordered),
         ratios("judge", UNION_FIND, unlike),
         ratios("judge", FASTTRACK, fasttrack),
         ratios("judge with cards", PASS, carded),
+        nearest(format!("judge, {LONG_OVER_SHORT}"), chained),
         steepest(growth),
     ];
-    format!("\nTargets:\n\n{}", lines.map(|line| format!("- {line}\n")).concat())
+    if !again.is_empty() {
+        let several = again.iter().filter(|row| row.tasks() > 1);
+        lines.push(ratios("judge", BEFORE, several.map(|row| (row, OVER_BEFORE))));
+    }
+    let lines: String = lines.iter().map(|line| format!("- {line}\n")).collect();
+    format!("\nTargets:\n\n{lines}")
 }
 
-/// Whether a ratio is at most the target in all rows: the row that comes nearest, or those that miss
-/// it.
 fn ratios<'a>(call: &str, ratio: Ratio, rows: impl Iterator<Item = (&'a Row, f64)>) -> String {
-    let mut rows: Vec<(&Row, f64)> = rows.collect();
-    let part = |&(row, target): &(&Row, f64)| ratio.in_row(row) / target;
-    rows.sort_by(|a, b| part(b).total_cmp(&part(a)));
-    let met = |row: &&(&Row, f64)| part(row) <= 1.0;
-    let missed = rows.len() - rows.iter().filter(met).count();
-    let shown = rows[..missed.max(1)]
+    let held =
+        |(row, target): (&Row, f64)| Held { ratio: ratio.in_row(row), target, label: row.label() };
+    nearest(ratio.name(call), rows.map(held))
+}
+
+/// A ratio that is held to a target, and of what.
+struct Held {
+    ratio: f64,
+    target: f64,
+    label: String,
+}
+
+/// Whether each ratio is at most its target: the one that comes nearest, or those that miss it.
+fn nearest(name: String, held: impl Iterator<Item = Held>) -> String {
+    let mut held: Vec<Held> = held.collect();
+    let part = |held: &Held| held.ratio / held.target;
+    held.sort_by(|a, b| part(b).total_cmp(&part(a)));
+    let missed = held.len() - held.iter().filter(|it| part(it) <= 1.0).count();
+    let shown = held[..missed.max(1)]
         .iter()
-        .map(|(row, target)| format!("{:.3} of {target} ({})", ratio.in_row(row), row.label()));
+        .map(|Held { ratio, target, label }| format!("{ratio:.3} of {target} ({label})"));
     let shown: Vec<String> = shown.collect();
-    format!("{}: {}, {}", ratio.name(call), verdict(missed == 0), shown.join(", "))
+    format!("{name}: {}, {}", verdict(missed == 0), shown.join(", "))
 }
 
 /// What an event takes in the shortest and in the longest trace.

@@ -1,5 +1,6 @@
-//! One call of each linked judge held against the slow judge: the answer, the workspace, both order
-//! buffers and the cards whole, the cells around them, the trace. Counts what was met.
+//! One call of each linked judge held against the slow judge: the answer with its values, the
+//! workspace, both order buffers and the cards whole, the cells around them, the trace. Counts what
+//! was met.
 
 use crate::buffer::{dirt, Buffer, Cell};
 use crate::watch::watched;
@@ -68,6 +69,8 @@ pub struct Test {
     judged: Counts,
     carded: Counts,
     ordered: Counts,
+    /// How often the judge reported each number of links.
+    links: [usize; MAX_LINKS + 1],
     /// The greatest of the traces that were found clean.
     extent: Extent,
 }
@@ -84,6 +87,7 @@ impl Test {
             judged: Counts::default(),
             carded: Counts::default(),
             ordered: Counts::default(),
+            links: [0; MAX_LINKS + 1],
             extent: Extent::default(),
         }
     }
@@ -104,6 +108,9 @@ impl Test {
         let told = JUDGES.map(|judge| held(self.judged_by(judge, trace, lent, &wanted)));
         let judged = Answer::from(told[0]);
         self.judged.count(judged);
+        if !matches!(judged, Answer::Refused(..)) {
+            self.links[wanted.links] += 1;
+        }
         if judged == Answer::Clean {
             self.extent = self.extent.max(Extent::of(trace));
         }
@@ -122,7 +129,7 @@ impl Test {
         trace: &Trace,
         [workspace, first, second, _]: Lent,
         wanted: &Outcome<Answer>,
-    ) -> Result<Told, String> {
+    ) -> Result<Told<3>, String> {
         let (name, lent) = (format!("{}, judge", judge.name), [workspace, first, second, 0]);
         self.judged_as(&name, trace, lent, wanted, |trace, [workspace, first, second], _| {
             judge.judge(trace, workspace, first, second)
@@ -135,7 +142,7 @@ impl Test {
         trace: &Trace,
         lent: Lent,
         wanted: &Outcome<Answer>,
-    ) -> Result<Told, String> {
+    ) -> Result<Told<3>, String> {
         let name = format!("{}, judge with cards", PROVED.name);
         self.judged_as(&name, trace, lent, wanted, |trace, [workspace, first, second], cards| {
             ffi::judge_cards(trace, workspace, first, second, cards)
@@ -149,8 +156,8 @@ impl Test {
         trace: &Trace,
         [workspace, first, second, cards]: Lent,
         wanted: &Outcome<Answer>,
-        call: impl FnOnce(&Trace, [&mut [u16]; 3], &mut [Record]) -> Told,
-    ) -> Result<Told, String> {
+        call: impl FnOnce(&Trace, [&mut [u16]; 3], &mut [Record]) -> Told<3>,
+    ) -> Result<Told<3>, String> {
         let copy = Arc::new(trace.clone());
         let mut w = self.buffer(workspace);
         let (mut f, mut s) = (self.buffer(first), self.buffer(second));
@@ -159,7 +166,7 @@ impl Test {
             watched(name, copy.clone(), || call(&copy, [w.lend(), f.lend(), s.lend()], c.lend()));
         let (first_order, second_order) = wanted.orders.clone().unwrap_or_default();
         let differences = [
-            ("answer", answer_difference(told, wanted.said)),
+            ("answer", answer_difference(told, ffi::judged(wanted.said, wanted.links))),
             ("trace", trace_difference(&copy, trace)),
             ("workspace", w.difference(&vec![0; wanted.cleared])),
             ("first order buffer", f.difference(&first_order)),
@@ -231,7 +238,7 @@ impl Test {
         workspace: usize,
         [p, q]: [usize; 2],
         wanted: &Outcome<Ordering>,
-    ) -> Result<Told, String> {
+    ) -> Result<Told<2>, String> {
         let call = format!("{}, ordering {p} {q}", judge.name);
         let copy = Arc::new(trace.clone());
         let mut w = self.buffer(workspace);
@@ -287,7 +294,9 @@ impl Test {
         for row in ROWS {
             table += &line(&format!("refused {row}"), &|counts| counts.rows[row]);
         }
-        table + &line("calls", &Counts::sum)
+        table += &line("calls", &Counts::sum);
+        let links = self.links.map(|count| format!(" {count}"));
+        format!("{table}links of the judge, 0 to {MAX_LINKS}:{}\n", links.concat())
     }
 
     /// What a call can give but never gave, or the limits if they were not met.
@@ -296,18 +305,20 @@ impl Test {
         let judged = self.judged.missing("the judge", &[13, 16]);
         let carded = self.carded.missing("the judge with cards", &[13]);
         let ordered = self.ordered.missing("the ordering call", &[4, 16]);
+        let never = self.links.iter().position(|&count| count == 0);
+        let links = never.map(|links| format!("{links} links"));
         let limits = (self.extent != LIMITS).then(|| format!("{LIMITS:?}, but {:?}", self.extent));
-        judged.or(carded).or(ordered).or(limits)
+        judged.or(carded).or(ordered).or(links).or(limits)
     }
 
     pub fn closing_line(&self, translated: usize) -> String {
         let [judged, carded, ordered] =
             [&self.judged, &self.carded, &self.ordered].map(Counts::sum);
-        let Extent { events, tasks, links } = self.extent;
+        let Extent { events, tasks } = self.extent;
         format!(
             "{judged} calls of the judge, {carded} of the judge with cards, {ordered} of the \
              ordering call and {translated} of the translation, up to {events} events, {tasks} \
-             tasks and chains of {links} links: no mismatch\n"
+             tasks and chains of {MAX_LINKS} links: no mismatch\n"
         )
     }
 }
@@ -317,7 +328,10 @@ fn records(wanted: &Outcome<Answer>) -> Vec<Record> {
     wanted.cards.iter().flatten().map(|&card| Record::from(card)).collect()
 }
 
-pub fn answer_difference(told: Told, wanted: impl Into<Told>) -> Option<String> {
+pub fn answer_difference<const VALUES: usize>(
+    told: Told<VALUES>,
+    wanted: impl Into<Told<VALUES>>,
+) -> Option<String> {
     let wanted = wanted.into();
     (told != wanted).then(|| format!("{told:?}, wanted {wanted:?}"))
 }
@@ -334,7 +348,7 @@ pub fn known<T: Debug + PartialEq>(found: T, wanted: T, on: impl Display) {
 }
 
 /// Ends the test where something differs.
-pub fn held(told: Result<Told, String>) -> Told {
+pub fn held<T>(told: Result<T, String>) -> T {
     told.unwrap_or_else(|difference| mismatch(&difference))
 }
 

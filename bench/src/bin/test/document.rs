@@ -36,9 +36,9 @@ const RUNS: [(&str, Answer); 21] = [
 
 pub const TWO_READERS: &str = "0 fork 1, 1 read 5, 1 halt, 0 read 5";
 pub const WRITES_TWICE: &str = "0 fork 1, 1 write 5, 1 write 5, 1 halt, 0 read 5";
-const JOINS_A_SIBLING: &str =
+pub const JOINS_A_SIBLING: &str =
     "0 fork 1, 1 read 7, 1 halt, 0 read 7, 0 fork 2, 2 join 1, 2 halt, 0 write 7";
-const JOINED_BY_WAY_OF_A_SIBLING: &str =
+pub const JOINED_BY_WAY_OF_A_SIBLING: &str =
     "0 fork 1, 1 read 7, 1 halt, 0 read 7, 0 fork 2, 2 join 1, 2 halt, 0 join 2, 0 write 7";
 
 const ORDERS: [(&str, [&[u16]; 2]); 2] = [

@@ -1,18 +1,15 @@
-//! The limits: 32,768 events, 1,024 tasks, chains of 10 links, lent slices of every length; and, for
-//! judges that look at many events at a time, each place in a trace.
+//! The limits: 32,768 events, 1,024 tasks, lent slices of every length; and, for judges that look at
+//! many events at a time, each place in a trace.
 
 use crate::compare::{known, needed, Test};
 use racejudge_bench::builder::Builder;
 use racejudge_bench::cards::cards;
 use racejudge_bench::extent::{Extent, LIMITS};
-use racejudge_bench::rng::Rng;
 use racejudge_bench::trace::*;
-use racejudge_bench::workloads::{binomial, join_equals, regrown};
 
 pub fn all(test: &mut Test) {
     events(test);
     tasks(test);
-    chains(test);
     buffer_lengths(test);
     card_lengths(test);
     slice_lengths(test);
@@ -88,36 +85,6 @@ fn tasks(test: &mut Test) {
     }
     let racing = all_tasks(beside, |b| b.write(7));
     known(test.both(&racing, 20), Answer::Race(1, racing.len() - 1), &racing);
-}
-
-/// Task 0 writes what the deepest task of a halted group of 512 touched: the search climbs 9 links.
-/// A group of 1,024 has task 0 in it, so no race is found over more.
-fn race_over_a_chain(rng: &mut Rng) -> Trace {
-    let mut owned = vec![Vec::new(); 512];
-    owned[511].push(7);
-    let mut b = Builder::default();
-    b.fork();
-    join_equals(&mut b, rng, 9, 0, &owned, 1);
-    b.halt();
-    b.write(7);
-    b.trace
-}
-
-fn chains(test: &mut Test) {
-    for _ in 0..4 {
-        let trace = binomial(MAX_EVENTS, &mut test.rng);
-        known(Extent::of(&trace).links, LIMITS.links, format_args!("the links of {trace}"));
-        known(test.both(&trace, 8), Answer::Clean, &trace);
-        // The first access is that of the deepest task.
-        let p = trace.kinds.iter().position(|&kind| kind <= WRITE).expect("an access");
-        known(test.ordering(&trace, p, MAX_EVENTS - 1), Ordering::Yes, &trace);
-    }
-    let trace = regrown(MAX_EVENTS, &mut test.rng);
-    known(Extent::of(&trace).links, 7, format_args!("the links of {trace}"));
-    let trace = race_over_a_chain(&mut test.rng);
-    let t = trace.len() - 1;
-    known(test.judge(&trace), Answer::Race(10, t), &trace);
-    known(test.ordering(&trace, 10, t), Ordering::No, &trace);
 }
 
 /// Rows 3, 4 and 16, each alone and all at once.

@@ -1,9 +1,11 @@
 //! Compares the linked judges with the all-ancestors judge, on document 01's runs, on every short
-//! trace, at the limits, on long traces and on random ones, whole and damaged; and the library's
-//! translation of texts with the slow judge's own. The first difference is printed with its trace
-//! or text and ends the test with status 1. `--seed N` draws others, `--times N` draws more.
+//! trace, at the limits, on chains of joins, on long traces and on random ones, whole and damaged;
+//! and the library's translation of texts with the slow judge's own. The first difference is printed
+//! with its trace or text and ends the test with status 1. `--seed N` draws others, `--times N` draws
+//! more.
 
 mod buffer;
+mod chains;
 mod compare;
 mod document;
 mod limits;
@@ -104,6 +106,7 @@ fn main() {
     document::texts();
     every_short(&mut test, &Trace::default(), 0, 5);
     limits::all(&mut test);
+    print(&format!("{} wrong tables of joins noticed\n", chains::all(&mut test)));
     long_traces(&mut test);
     random_traces(&mut test, times);
     let mut texts = Texts::new(seed as u64);

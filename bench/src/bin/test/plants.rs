@@ -1,10 +1,11 @@
 //! Wrong expectations: a comparison that did not notice them would notice no wrong judge either.
 
 use crate::compare::{needed, Lent, Test, JUDGES};
-use crate::document::{trace, TWO_READERS, WRITES_TWICE};
+use crate::document::{
+    trace, JOINED_BY_WAY_OF_A_SIBLING, JOINS_A_SIBLING, TWO_READERS, WRITES_TWICE,
+};
 use crate::texts::{wanted, Text, Texts, Wanted, ENOUGH};
 use racejudge_bench::ancestors::Outcome;
-use racejudge_bench::ffi::Told;
 use racejudge_bench::program::fail;
 use racejudge_bench::trace::*;
 use std::fmt::Debug;
@@ -12,19 +13,35 @@ use std::fmt::Debug;
 /// Makes one thing of what is wanted wrong.
 type Change<T> = fn(&mut Outcome<T>);
 
-/// The answer is race 1 4.
-const JUDGED: [Change<Answer>; 5] = [
-    |wanted| wanted.said = Answer::Race(2, 4),
-    |wanted| wanted.cleared -= 1,
-    |wanted| wanted.cleared += 1,
-    |wanted| wanted.orders.as_mut().expect("a race").0[0] += 1,
-    |wanted| wanted.orders.as_mut().expect("a race").1[4] += 1,
+/// A join of what was joined before is refused by 11.
+const JOINS_TWICE: &str = "0 fork 1, 1 halt, 0 join 1, 0 join 1";
+
+/// A run, and what is made wrong of what is wanted: the answer, the cleared cells, an order, the
+/// links of a race, of a clean trace and of a refusal.
+const JUDGED: [(&str, &[Change<Answer>]); 4] = [
+    (
+        WRITES_TWICE,
+        &[
+            |wanted| wanted.said = Answer::Race(2, 4),
+            |wanted| wanted.cleared -= 1,
+            |wanted| wanted.cleared += 1,
+            |wanted| wanted.orders.as_mut().expect("a race").0[0] += 1,
+            |wanted| wanted.orders.as_mut().expect("a race").1[4] += 1,
+            |wanted| wanted.links += 1,
+        ],
+    ),
+    (JOINS_A_SIBLING, LINKS),
+    (JOINED_BY_WAY_OF_A_SIBLING, LINKS),
+    (JOINS_TWICE, &[|wanted| wanted.links += 1]),
 ];
+
+/// Where there is one link.
+const LINKS: &[Change<Answer>] = &[|wanted| wanted.links -= 1, |wanted| wanted.links += 1];
 
 /// A run, how many cards are lent, and what is made wrong of what is wanted: the answer, the cleared
 /// cells, each field of a card, the two that say that no event touches the location, the last card,
-/// the record behind it, cards where there are none.
-const CARDED: [(&str, usize, &[Change<Answer>]); 3] = [
+/// the record behind it, cards where there are none, and the links.
+const CARDED: [(&str, usize, &[Change<Answer>]); 7] = [
     (
         TWO_READERS,
         LOCATIONS + 1,
@@ -61,6 +78,10 @@ const CARDED: [(&str, usize, &[Change<Answer>]); 3] = [
             |wanted| wanted.cards = Some(vec![UNTOUCHED]),
         ],
     ),
+    (JOINS_A_SIBLING, LOCATIONS, LINKS),
+    (JOINED_BY_WAY_OF_A_SIBLING, LOCATIONS, LINKS),
+    (JOINED_BY_WAY_OF_A_SIBLING, LOCATIONS - 1, &[|wanted| wanted.links += 1]),
+    (JOINS_TWICE, LOCATIONS, &[|wanted| wanted.links += 1]),
 ];
 
 fn cards(wanted: &mut Outcome<Answer>) -> &mut Vec<Card> {
@@ -106,9 +127,7 @@ pub fn all() -> usize {
     let mut test = Test::new(1);
     // A cell that is not cleared is not 0, and a record that is not written is no card.
     test.dirt.fill(u16::MAX);
-    judged(&mut test, &trace(WRITES_TWICE));
-    ordered(&mut test, &trace(WRITES_TWICE));
-    JUDGES.len() * (JUDGED.len() + ORDERED.len()) + carded(&mut test) + translated()
+    judged(&mut test) + carded(&mut test) + ordered(&mut test) + translated()
 }
 
 /// What the judge needs, with a cell of the workspace more and so many cards.
@@ -117,13 +136,19 @@ fn lent(trace: &Trace, cards: usize) -> Lent {
     [workspace + 1, first, second, cards]
 }
 
-fn judged(test: &mut Test, trace: &Trace) {
-    let lent = lent(trace, 0);
-    for (judge, change) in JUDGES.iter().flat_map(|judge| JUDGED.map(|change| (judge, change))) {
-        let mut wanted = test.slow.judge(trace, lent[0], lent[1], lent[2]);
-        change(&mut wanted);
-        noticed(test.judged_by(judge, trace, lent, &wanted), &wanted);
+fn judged(test: &mut Test) -> usize {
+    for (run, changes) in JUDGED {
+        let trace = trace(run);
+        let lent = lent(&trace, 0);
+        for change in changes {
+            let mut wanted = test.slow.judge(&trace, lent[0], lent[1], lent[2]);
+            change(&mut wanted);
+            for judge in JUDGES {
+                noticed(test.judged_by(judge, &trace, lent, &wanted), &wanted);
+            }
+        }
     }
+    JUDGES.len() * JUDGED.iter().map(|(_, changes)| changes.len()).sum::<usize>()
 }
 
 fn carded(test: &mut Test) -> usize {
@@ -140,13 +165,15 @@ fn carded(test: &mut Test) -> usize {
     CARDED.iter().map(|(.., changes)| changes.len()).sum()
 }
 
-fn ordered(test: &mut Test, trace: &Trace) {
+fn ordered(test: &mut Test) -> usize {
+    let trace = trace(WRITES_TWICE);
     let (workspace, pair) = (WORKSPACE + trace.len() + 1, [0, 4]);
     for (judge, change) in JUDGES.iter().flat_map(|judge| ORDERED.map(|change| (judge, change))) {
-        let mut wanted = test.slow.ordering(trace, workspace, pair[0], pair[1]);
+        let mut wanted = test.slow.ordering(&trace, workspace, pair[0], pair[1]);
         change(&mut wanted);
-        noticed(test.ordered_by(judge, trace, workspace, pair, &wanted), &wanted);
+        noticed(test.ordered_by(judge, &trace, workspace, pair, &wanted), &wanted);
     }
+    JUDGES.len() * ORDERED.len()
 }
 
 fn translated() -> usize {
@@ -163,7 +190,7 @@ fn translated() -> usize {
     TRANSLATED.iter().map(|(_, changes)| changes.len()).sum()
 }
 
-fn noticed(told: Result<Told, String>, wrong: &impl Debug) {
+fn noticed<T>(told: Result<T, String>, wrong: &impl Debug) {
     if told.is_ok() {
         fail(&format!("NOT NOTICED, though it is wrong: {wrong:?}"));
     }

@@ -94,7 +94,7 @@ impl Texts {
         text: &Text,
         lent: [usize; 3],
         wanted: &Wanted,
-    ) -> Result<Told, String> {
+    ) -> Result<Told<2>, String> {
         let call = format!("the library, translation to slices of {lent:?}");
         // Behind the text stands a byte that would end its last line.
         let copy = [&text.0[..], b"\n"].concat();

@@ -81,12 +81,12 @@ use Rattle.capi.proofs.racejudge_judge_cards as f
 use Rattle.capi.proofs.racejudge_judge_cards.Statement as stated
 use Rattle.capi.proofs.racejudge_judge_cards.Code as code
 
--- the two values
-abbrev pair : {n : ℕ} → Slot n
-pair = ArrayOf (plain (λ _. u64)) (λ _. tt) 2
+-- the three values
+abbrev three : {n : ℕ} → Slot n
+three = ArrayOf (plain (λ _. u64)) (λ _. tt) 3
 
-abbrev Pair : RattleType
-Pair = pair {n = 0} .row tt
+abbrev Three : RattleType
+Three = three {n = 0} .row tt
 
 abbrev stayed : Stays (f.ended .signature .params) (f.ended .kept)
 stayed = (
@@ -104,7 +104,7 @@ stayed = (
             (
               gave-slice (6
                   ∷ []) tt (plain (λ _. T.the-row)),
-              (gave-ref (7 ∷ []) tt pair, tt),
+              (gave-ref (7 ∷ []) tt three, tt),
             ),
           ),
         ),
@@ -171,7 +171,7 @@ module _ {M : Type 1} (𝓤 : URA M) (H : Heap 𝓤) (A : Atoms 𝓤) (W : Given
   M₆ = MutSlice (named 6) κ₆ T.the-row .own x₆ (slice-vals x₆)
 
   abbrev M₇ : Fml
-  M₇ = MutRef (named 7) κ₇ Pair .own x₇ (ptr-vals x₇)
+  M₇ = MutRef (named 7) κ₇ Three .own x₇ (ptr-vals x₇)
 
   -- the workspace at the list us that `judge_counted` leaves, which is as long
   abbrev v₃′ : List ℕ → Val
@@ -351,7 +351,7 @@ module _ {M : Type 1} (𝓤 : URA M) (H : Heap 𝓤) (A : Atoms 𝓤) (W : Given
   abbrev had-exit : Val → ℕ → LastsC → List ℕ → List Card → List (Item 𝓤)
   had-exit w r zs ws cs = ‵ (flft κ₀ q₀) ∷ ‵ (flft κ₁ q₁) ∷ ‵ (flft κ₂ q₂) ∷ ‵ (flft κ₃ q₃) ∷ ‵ (flft κ₄ q₄) ∷ ‵ (flft κ₅ q₅) ∷ ‵ (flft κ₆ q₆)
       ∷ ‵ (flft κ₇ q₇) ∷ ‵ S₀ ∷ ‵ S₁ ∷ ‵ S₂ ∷ ‵ (finally u16 γ₃ ws) ∷ ‵ (finally u16 (x₄ .name) (left-first zs))
-      ∷ ‵ (finally u16 (x₅ .name) (left-second zs)) ∷ ‵ (finally T.the-row (x₆ .name) cs) ∷ ‵ (fres (x₇ .name) (Pair .coded .code (left-values zs)))
+      ∷ ‵ (finally u16 (x₅ .name) (left-second zs)) ∷ ‵ (finally T.the-row (x₆ .name) cs) ∷ ‵ (fres (x₇ .name) (Three .coded .code (left-values zs)))
       ∷ ‵ (u64 .own r (w ∷ [])) ∷ []
 
   exits : (w : Val) (r : ℕ) (zs : LastsC) (ws : List ℕ) (cs : List Card) → SaysC r zs → (k : ℕ) → k ≡ dueAfter r → ws ≡ wiped k (left zs)
@@ -377,7 +377,7 @@ module _ {M : Type 1} (𝓤 : URA M) (H : Heap 𝓤) (A : Atoms 𝓤) (W : Given
         ),
       ) (tt, (tt, (tt, (len₃, (len₄, (len₅, (len₆, (tt, tt))))))))) $
       claims ! (both 𝓤 (stated 𝓤 (promised .0)) (both 𝓤 (stated 𝓤 (promised .1 .0)) (both 𝓤 (stated 𝓤 (promised .1 .1 .0))
-      (both 𝓤 (stated 𝓤 (promised .1 .1 .1 .0)) (stated 𝓤 (promised .1 .1 .1 .1)))))) $
+      (both 𝓤 (stated 𝓤 (promised .1 .1 .1 .0)) (both 𝓤 (stated 𝓤 (promised .1 .1 .1 .1 .0)) (stated 𝓤 (promised .1 .1 .1 .1 .1))))))) $
       nothing ! $ move ! (1 ∷ 2 ∷ 3 ∷ 4 ∷ 5 ∷ 6 ∷ 7 ∷ 8 ∷ 0 ∷ []) $ group ! 9 $ frame ! $ nothing ! $ move ! (1 ∷ 2 ∷ 3 ∷ 4 ∷ 5 ∷ 6 ∷ 7 ∷ 8 ∷ 0 ∷ []) $
       group ! 9 $ frame ! $ done !
     where
@@ -547,7 +547,7 @@ module _ {M : Type 1} (𝓤 : URA M) (H : Heap 𝓤) (A : Atoms 𝓤) (W : Given
                   mut-slice-tells (named 5) (κs .1 .1 .1 .1 .1 .0) u16,
                   (
                     mut-slice-tells (named 6) (κs .1 .1 .1 .1 .1 .1 .0) T.the-row,
-                    (mut-tells (named 7) (κs .1 .1 .1 .1 .1 .1 .1 .0) Pair, tt),
+                    (mut-tells (named 7) (κs .1 .1 .1 .1 .1 .1 .1 .0) Three, tt),
                   ),
                 ),
               ),
@@ -579,7 +579,7 @@ module _ {M : Type 1} (𝓤 : URA M) (H : Heap 𝓤) (A : Atoms 𝓤) (W : Given
               goes-gave-slice 𝓤 H A W 8 5 tt (plain (λ _. u16)),
               (
                 goes-gave-slice 𝓤 H A W 8 6 tt (plain (λ _. T.the-row)),
-                (goes-gave-ref 𝓤 H A W 8 7 tt pair, tt),
+                (goes-gave-ref 𝓤 H A W 8 7 tt three, tt),
               ),
             ),
           ),

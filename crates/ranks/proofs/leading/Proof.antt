@@ -3,7 +3,8 @@ use mathlib.Core.Path.{sym, _∙_}
 use native.Mathlib.Omega.{arith}
 use borrow.Author.Needs.{needs}
 use borrow.Author.Tests.{not-false}
-use Rattle.ranks.proofs.Passing.{stop-inside, leading-all, leading-second, leading-less}
+use Rattle.stops.proofs.Standing.{stop-inside}
+use Rattle.ranks.proofs.Passing.{leading-all, leading-second, leading-less}
 use Rattle.ranks.proofs.leading.Statement.{statement}
 use Rattle.ranks.proofs.leading.Tie as tie
 

@@ -4,7 +4,7 @@ use native.Mathlib.Omega.{arith}
 use borrow.Author.Needs.{needs}
 use lib.ListN.{length}
 use Rattle.trace.specs.Trace.{traceOf}
-use Rattle.ranks.proofs.Passing.{stop-inside}
+use Rattle.stops.proofs.Standing.{stop-inside}
 use Rattle.ranks.proofs.Listing.{Listing, listing-begin, listing-stop, taken-movable, taken-turn, listing-broken}
 use Rattle.ranks.proofs.Listing.{listing-finish, list-few}
 use Rattle.ranks.proofs.list_segments.Statement.{statement}

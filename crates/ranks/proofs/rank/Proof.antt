@@ -2,8 +2,9 @@
 use mathlib.Core.Path.{refl}
 use native.Mathlib.Omega.{arith}
 use borrow.Author.Needs.{needs}
+use Rattle.stops.proofs.Standing.{stops-in, stops-still}
 use Rattle.cells.proofs.Rests.{sized-same}
-use Rattle.ranks.proofs.Ranking.{stops-in, stops-still, stops-rest, events-within, listed, ranked}
+use Rattle.ranks.proofs.Ranking.{stops-rest, events-within, listed, ranked, stops-stand}
 use Rattle.ranks.proofs.rank.Statement.{statement}
 use Rattle.ranks.proofs.rank.Tie as tie
 
@@ -34,10 +35,15 @@ returns c =
     let says = c .before .before .before .before .before .before .before .before .list-segments .ensures in
     let collect = c .before .before .before .before .before .before .before .before .before .before .before .before in
     let start = collect .before .before .before .before .before .before in
-    let args = start .args in (
-      ranked (args .kinds .now) (args .tasks .now) (args .operands .now) (stops-rest (collect .collect .ensures)) says (start .pre .room) refl
-          (c .before .before .number .ensures),
-      c .before .before .before .before .leading .ensures,
+    let args = start .args in
+    let rest = stops-rest (collect .collect .ensures) in
+    let walk = c .before .before .number .ensures in (
+      ranked (args .kinds .now) (args .tasks .now) (args .operands .now) rest says (start .pre .room) refl walk,
+      (
+        c .before .before .before .before .leading .ensures,
+        stops-stand (args .kinds .now) (args .tasks .now) (args .operands .now) rest says (start .pre .room) refl walk
+            (stops-in _ (collect .collect .ensures)),
+      ),
     )
 
 pub rank-spec : {M : Type 1} → statement M

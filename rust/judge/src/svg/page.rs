@@ -37,7 +37,7 @@ fn words(canvas: &mut Canvas, story: &Story, title: &str, said: &[String]) -> i3
     canvas.text((MARGIN, y), "title", title);
     y += 28;
     let class = match story.answer {
-        Ok(Verdict::Clean) => "answer clean",
+        Ok(Verdict::Clean { .. }) => "answer clean",
         _ => "answer bad",
     };
     canvas.text((MARGIN, y), class, &story.answer_line());

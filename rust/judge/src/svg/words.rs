@@ -71,8 +71,10 @@ impl Story<'_> {
     /// The answer in a few sentences.
     pub fn summary(&self) -> Vec<String> {
         match self.answer {
-            Ok(Verdict::Clean) if self.trace.is_empty() => vec!["There are no events.".into()],
-            Ok(Verdict::Clean) => vec![NO_RACE.into()],
+            Ok(Verdict::Clean { .. }) if self.trace.is_empty() => {
+                vec!["There are no events.".into()]
+            }
+            Ok(Verdict::Clean { .. }) => vec![NO_RACE.into()],
             Ok(Verdict::Race { s, t, .. }) => self.race_summary(*s, *t),
             Err(refusal) => self.refusal_summary(refusal),
         }

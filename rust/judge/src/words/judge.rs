@@ -14,10 +14,11 @@ use std::io::Read;
 
 const SVG: &str = "--svg";
 const ORDERS: &str = "--orders";
+const LINKS: &str = "--links";
 
 pub const WORD: Word = Word {
     name: "",
-    usage: "[--json] [--svg FILE] [--orders] FILE...",
+    usage: "[--json] [--svg FILE] [--orders] [--links] FILE...",
     about: "Judges traces of fork-join runs for data races, and says in words why.",
     help: "
 Each FILE is a trace, as text or in the binary form. - is standard input.
@@ -26,6 +27,8 @@ Each FILE is a trace, as text or in the binary form. - is standard input.
   --svg FILE   draws the trace of the one file that is given as a picture into FILE, and writes over
                nothing there but an older picture
   --orders     prints both orders of a race whole, however long they are
+  --links      says how many links lead from a task to the top of its tree in the table of joins, at
+               the most, by the proved judge; with --json that is always told
   --           ends the options: what follows is a file, whatever its name
 
 A file that has the name of a word is given as ./WORD.
@@ -39,7 +42,7 @@ The first line of an answer is the proved judge's own:
 What follows it explains it, and is not proved. Events count from 0, lines of a file from 1.
 ",
     statuses: JUDGED,
-    options: Options { alone: &[JSON, ORDERS, HELP, VERSION], valued: &[SVG] },
+    options: Options { alone: &[JSON, ORDERS, LINKS, HELP, VERSION], valued: &[SVG] },
     run,
 };
 
@@ -47,6 +50,7 @@ What follows it explains it, and is not proved. Events count from 0, lines of a 
 struct Job {
     json: bool,
     whole_orders: bool,
+    links: bool,
     picture: Option<OsString>,
 }
 
@@ -65,6 +69,7 @@ fn run(arguments: Arguments) -> Result<Status, Failure> {
     let job = Job {
         json: arguments.has(JSON),
         whole_orders: arguments.has(ORDERS),
+        links: arguments.has(LINKS),
         picture: arguments.value(SVG).cloned(),
     };
     let files = Files::of(arguments.operands)?;
@@ -112,7 +117,8 @@ impl Job {
     fn file(&self, file: &OsStr, above: String, recording: &Recording) -> Result<Status, Failure> {
         let study = Study::new(recording);
         if !self.json {
-            print(&(above + &explain::judged(&study, self.whole_orders)))?;
+            let links = if self.links { explain::links(&study) } else { String::new() };
+            print(&(above + &explain::judged(&study, self.whole_orders) + &links))?;
         }
         let picture = self.draw(&study, file);
         print(&if self.json { objects::judged(file, &study, &picture) } else { told(&picture) })?;

@@ -5,10 +5,10 @@ use Rattle.test_cards.proofs.tables.go_through.Statement.{statement}
 use Rattle.test_cards.proofs.tables.go_through.Tie as tie
 
 abbrev Inv-loop : tie.InvT-loop
-Inv-loop cells count table events rows row₀ row = row ≤ rows
+Inv-loop cells rows table events row₀ row = row ≤ rows
 
 abbrev μ-loop : tie.MeasureT-loop
-μ-loop cells count table events rows row₀ row = rows - row
+μ-loop cells rows table events row₀ row = rows - row
 
 pub go-through-spec : {M : Type 1} → statement M
 go-through-spec =

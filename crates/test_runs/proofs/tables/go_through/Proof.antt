@@ -7,10 +7,10 @@ use Rattle.test_runs.proofs.tables.go_through.Statement.{statement}
 use Rattle.test_runs.proofs.tables.go_through.Tie as tie
 
 abbrev Inv-loop : tie.InvT-loop
-Inv-loop cells count planted events memory₀ rows row₀ memory row = length memory ≡ length memory₀
+Inv-loop cells rows planted events memory₀ row₀ memory row = length memory ≡ length memory₀
 
 abbrev μ-loop : tie.MeasureT-loop
-μ-loop cells count planted events memory₀ rows row₀ memory row = rows - row
+μ-loop cells rows planted events memory₀ row₀ memory row = rows - row
 
 pub go-through-spec : {M : Type 1} → statement M
 go-through-spec =

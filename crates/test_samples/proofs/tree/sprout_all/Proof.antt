@@ -7,10 +7,10 @@ use Rattle.test_samples.proofs.tree.sprout_all.Statement.{statement}
 use Rattle.test_samples.proofs.tree.sprout_all.Tie as tie
 
 abbrev Inv-loop : tie.InvT-loop
-Inv-loop events₀ table tasks n₀ task₀ events n task = length events ≡ length events₀
+Inv-loop events₀ table tasks from n₀ task₀ events n task = length events ≡ length events₀
 
 abbrev μ-loop : tie.MeasureT-loop
-μ-loop events₀ table tasks n₀ task₀ events n task = tasks - task
+μ-loop events₀ table tasks from n₀ task₀ events n task = tasks - task
 
 pub sprout-all-spec : {M : Type 1} → statement M
 sprout-all-spec =

@@ -1,0 +1,40 @@
+//! No call writes behind its values.
+
+use racejudge::{raw, Card};
+use std::ptr::NonNull;
+
+const UNSET: u64 = u64::MAX;
+
+/// What a call returns, and what it leaves in five cells, of which it may use the first ones.
+fn stored<T>(call: impl FnOnce(*mut T) -> u64) -> (u64, [u64; 5]) {
+    let mut cells = [UNSET; 5];
+    (call(cells.as_mut_ptr().cast()), cells)
+}
+
+/// A slice of no cells, to be read or written.
+fn none<T>() -> *mut T {
+    NonNull::dangling().as_ptr()
+}
+
+#[test]
+fn as_many_as_the_call_has() {
+    // Safe: all slices are empty, and there are more cells than any call stores.
+    let judged = stored(|values| unsafe {
+        let (w, f, s) = (none(), none(), none());
+        raw::racejudge_judge(none(), 0, none(), 0, none(), 0, w, 0, f, 0, s, 0, values)
+    });
+    assert_eq!(judged, (raw::REFUSED, [3, 0, 0, UNSET, UNSET]));
+    let carded = stored(|values| unsafe {
+        let (w, f, s, c) = (none(), none(), none(), none::<Card>());
+        raw::racejudge_judge_cards(none(), 0, none(), 0, none(), 0, w, 0, f, 0, s, 0, c, 0, values)
+    });
+    assert_eq!(carded, (raw::REFUSED, [3, 0, 0, UNSET, UNSET]));
+    let ordered = stored(|values| unsafe {
+        raw::racejudge_ordering(none(), 0, none(), 0, none(), 0, none(), 0, 0, 0, values)
+    });
+    assert_eq!(ordered, (raw::REFUSED, [3, 0, UNSET, UNSET, UNSET]));
+    let translated = stored(|values| unsafe {
+        raw::racejudge_translate(none(), 0, none(), 0, none(), 0, none(), 0, values)
+    });
+    assert_eq!(translated, (raw::SHORT, [0, 0, UNSET, UNSET, UNSET]));
+}
