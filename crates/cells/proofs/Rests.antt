@@ -1,5 +1,5 @@
 -- Cells past the tables, and past the first 12,288 and one for each event: what no function of the judge stores to. Assumes nothing.
-use Prim.Native.Nat.{ℕ, _+_, _<_}
+use Prim.Native.Nat.{ℕ, _+_, _≤_, _<_}
 use mathlib.Core.Path.{_≡_, refl, sym, ap, _∙_}
 use mathlib.Core.List.{List, _++_}
 use native.Mathlib.Omega.{arith}
@@ -8,7 +8,7 @@ use lib.Seq.{getD-set-other, getD-drop, ext-getD}
 use Rattle.trace.specs.Trace.{WORKSPACE-CELLS}
 use Rattle.trace.specs.Outcome.{cleared}
 use Rattle.trace.proofs.Sizes.{Sized}
-use Rattle.cells.specs.Cells.{zeroed, SameFrom, Rest}
+use Rattle.cells.specs.Cells.{zeroed, SameFrom, Rest, SameBeyond}
 use Rattle.cells.proofs.Zeroed.{zeroed-cleared}
 
 pub rest-refl : (n : ℕ) (c : List ℕ) → Rest n c c
@@ -26,6 +26,9 @@ same-from-refl base c = record { long = refl; same = λ i h. refl }
 
 pub same-from-trans : {base : ℕ} {c d e : List ℕ} → SameFrom base c d → SameFrom base d e → SameFrom base c e
 same-from-trans r s = record { long = s .long ∙ r .long; same = λ i h. s .same i h ∙ r .same i h }
+
+pub same-beyond : {base : ℕ} {c d : List ℕ} → base ≤ WORKSPACE-CELLS → SameFrom base c d → SameBeyond c d
+same-beyond low r = record { long = r .long; same = λ i h. r .same i (omega arith) }
 
 -- A store below them.
 pub rest-set : {n : ℕ} {c d : List ℕ} (i v : ℕ) → i < WORKSPACE-CELLS + n → Rest n c d → Rest n c (set d i v)

@@ -1,6 +1,6 @@
 -- The table of joins, event by event: a join is one in the cells, and every other event leaves both tables. Assumes nothing.
 use Prim.Native.Nat.{ℕ, zero, suc, max, _+_, _≤_, _<_}
-use mathlib.Core.Path.{_≡_, refl, sym, ap, subst, _∙_}
+use mathlib.Core.Path.{_≡_, refl, sym, ap, _∙_}
 use mathlib.Core.Bool.{true, false, true≢false}
 use mathlib.Core.List.{List}
 use mathlib.Core.Logic.{_≢_}
@@ -12,15 +12,15 @@ use Rattle.trace.specs.Line.{haltOperand}
 use Rattle.trace.specs.Search.{largestBelow}
 use Rattle.trace.specs.Joins.{Parents, MAX-LINKS, topOf, linksOf, joinsAfter, longestAfter}
 use Rattle.trace.specs.Demands.{KeepsRules}
-use Rattle.trace.proofs.Tests.{either, last-or-below}
 use Rattle.trace.proofs.Lines.{passes-earlier}
 use Rattle.trace.proofs.EventKinds.{access-not-join}
 use Rattle.trace.proofs.Chains.{largest-same}
-use Rattle.cells.specs.Cells.{SameFrom, NUMBER, numberIn, zeroed}
-use Rattle.cells.proofs.Rests.{same-from-refl, same-from-trans}
+use Rattle.cells.specs.Cells.{SameFrom, numberIn, zeroed}
+use Rattle.cells.proofs.Rests.{same-from-refl, same-from-trans, same-beyond}
 use Rattle.cells.proofs.Zeroed.{zeroed-length, zeroed-below, zeroed-beyond}
 use Rattle.stops.specs.Stops.{isStop, stopsBefore, StopsIn}
-use Rattle.stops.proofs.Counting.{stops-grow, next-stop, no-stop-left}
+use Rattle.stops.proofs.Counting.{stops-grow, no-stop-left, kept-over}
+use Rattle.stops.proofs.Standing.{stops-still, stop-read}
 use Rattle.stops.proofs.Quiet.{stop-zero, quiet-event}
 use Rattle.forest.specs.Tables.{Found}
 use Rattle.forest.specs.Forest.{FOREST-CELLS, parents, Joinable, Joined}
@@ -92,11 +92,7 @@ quiet-no-join tr zero e = absurd (true≢false (sym (stop-zero tr) ∙ e))
 quiet-no-join tr (suc q) e = access-not-join (tr .kind (suc q)) (quiet-event tr q e .access)
 
 joins-over : {tr : Trace} {c : List ℕ} {i : ℕ} (p : ℕ) → i ≤ p → JoinsAt tr i c → ((q : ℕ) → i ≤ q → q < p → isStop tr q ≡ false) → JoinsAt tr p c
-joins-over {tr} {c} {i} zero h at quiet = let same : i ≡ 0 = omega arith in subst (λ (n : ℕ). JoinsAt tr n c) same at
-joins-over {tr} {c} {i} (suc p) h at quiet =
-    either (last-or-below i (suc p) (omega arith)) (λ same. subst (λ (n : ℕ). JoinsAt tr n c) same at)
-    (λ l.
-    joins-kept (joins-over p (omega arith) at (λ q low high. quiet q low (omega arith))) (quiet-no-join tr p (quiet p (omega arith) (omega arith))))
+joins-over {tr} {c} = kept-over (isStop tr) (λ n. JoinsAt tr n c) (λ p e at. joins-kept at (quiet-no-join tr p e))
 
 -- ---- the loop
 
@@ -137,21 +133,14 @@ module _ {tr : Trace} {n events : ℕ} {before entry c : List ℕ} {k count : �
     (le : events ≤ n) (kept : KeepsRules tr events) (w : Building tr events entry c k) where
   pub build-stop : k < count → (i : ℕ) → i ≡ numberIn c k → AtStop tr n events c k i
   build-stop h i read =
-      let all = stops .counted in
-      let now = w .counted in
       let within = w .within in
-      let next = next-stop (isStop tr) (w .position) n (omega arith) in
-      let p = next .0 in
-      let s = next .1 in
-      let is : i ≡ p =
-      read ∙ (w .rest .same (NUMBER + k) (omega arith) ∙ (first .same (NUMBER + k) (omega arith)
-      ∙ (ap (numberIn before) (sym (s .counted ∙ now)) ∙ stops .table p (s .below) (s .stops)))) in
-      rw is (record {
+      let s = stop-read (stops-still (same-beyond (omega arith) (same-from-trans first (w .rest))) stops) (w .counted) h i read in
+      record {
         inside = s .below;
-        one-more = s .one-more ∙ ap suc now;
-        joins-at = λ l. joins-over p (s .from) (w .joins-at) (s .quiet);
+        one-more = s .one-more ∙ ap suc (w .counted);
+        joins-at = λ l. joins-over i (s .from) (w .joins-at) (s .quiet);
         joins-end = λ l. joins-over events within (w .joins-at) (λ q low high. s .quiet q low (omega arith));
-      })
+      }
 
   pub build-finish : JoinsAt tr events c → Taken tr events before c
   build-finish at = record { joins-at = at; bound = bounded kept; rest = same-from-trans first (w .rest) }

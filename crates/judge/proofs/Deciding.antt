@@ -15,7 +15,7 @@ use Rattle.trace.proofs.Lines.{graph-kept, located}
 use Rattle.trace.proofs.Sizes.{Sized}
 use Rattle.trace.proofs.Demand2.{demand-2, judgement-clean}
 use Rattle.trace.proofs.Numbers.{Numbers, numbers-agree}
-use Rattle.cells.proofs.Rests.{same-from-trans, sized-same}
+use Rattle.cells.proofs.Rests.{same-from-trans, same-beyond, sized-same}
 use Rattle.stops.specs.Stops.{StopsIn}
 use Rattle.stops.proofs.Standing.{stops-still}
 use Rattle.forest.proofs.Joins.{longest-access}
@@ -69,7 +69,7 @@ module _ {kinds tasks operands entry ordered : List ℕ} {events number : ℕ} (
         let keeps : KeepsRules tr (graphOf tr n) = record { line = graph .0; reached = graph .1 } in (
           sized-same lent (kept .long ∙ ranked .rest .long),
           (
-            stops-still (record { long = kept .long; same = λ i h. kept .same i (omega arith) }) stops,
+            stops-still (same-beyond (omega arith) kept) stops,
             (omega (arith, found .within), kept-earlier t keeps (omega (arith, found .within, graph-is))),
           ),
         )

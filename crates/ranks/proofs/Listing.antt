@@ -16,15 +16,16 @@ use Rattle.trace.proofs.Tests.{by-test, either}
 use Rattle.trace.proofs.EventKinds.{rest-is-halt}
 use Rattle.trace.proofs.Lines.{line-more, graph-all, graph-broken}
 use Rattle.trace.proofs.TwoStacks.{line-of}
-use Rattle.cells.specs.Cells.{SameBeyond, NUMBER, numberIn}
+use Rattle.cells.specs.Cells.{SameBeyond, numberIn}
 use Rattle.cells.proofs.Rests.{rest-refl, rest-eq, rest-trans, rest-set}
 use Rattle.segments.specs.Segments.{moves, top, source, segments}
 use Rattle.segments.proofs.SegmentFacts.{moves-access, moves-move, segments-access, source-old, opens-fork, opens-join, opens-halt}
 use Rattle.segments.proofs.SegmentCount.{segments-few}
 use Rattle.segments.proofs.SegmentStacks.{stacked, stacked-length, ended-length}
 use Rattle.segments.proofs.SegmentCells.{linkIn, Holding, holding-start, holding-access, holding-move, holding-frame}
+use Rattle.stops.proofs.Standing.{stops-still, stop-read}
 use Rattle.stops.specs.Stops.{isStop, stopsBefore, StopsIn}
-use Rattle.stops.proofs.Counting.{stops-grow, next-stop, no-stop-left}
+use Rattle.stops.proofs.Counting.{stops-grow, no-stop-left}
 use Rattle.line.specs.declared.Line.{Line}
 use Rattle.line.specs.Rules.{ruleOf}
 use Rattle.line.specs.Cells.{depths, startedIn}
@@ -320,15 +321,8 @@ module _ {tr : Trace} {n : ℕ} {before entry c : List ℕ} {line : Line} {g k c
     (stops : StopsIn tr n before count) (w : Listing tr n entry c line g k) where
   pub listing-stop : k < count → (i : ℕ) → i ≡ numberIn c k → AtStop tr n c line g k i
   listing-stop h i read =
-      let all = stops .counted in
-      let now = w .counted in
-      let next = next-stop (isStop tr) (w .position) n (omega arith) in
-      let p = next .0 in
-      let s = next .1 in
-      let is : i ≡ p =
-      read ∙ (w .beyond .same (NUMBER + k) (omega arith) ∙ (first .same (NUMBER + k) (omega arith)
-      ∙ (ap (numberIn before) (sym (s .counted ∙ now)) ∙ stops .table p (s .below) (s .stops)))) in
-      rw is (record { inside = s .below; one-more = s .one-more ∙ ap suc now; list-at = passed-over p (s .from) (w .list-at) (s .quiet) })
+      let s = stop-read (stops-still (rest-trans first (w .beyond)) stops) (w .counted) h i read in
+      record { inside = s .below; one-more = s .one-more ∙ ap suc (w .counted); list-at = passed-over i (s .from) (w .list-at) (s .quiet) }
 
   pub listing-finish : count ≤ k → ListSays tr n before c n 0
   listing-finish h =

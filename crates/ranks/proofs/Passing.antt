@@ -8,13 +8,12 @@ use native.Mathlib.Omega.{arith}
 use lib.ListN.{length, getD}
 use Rattle.trace.specs.Trace.{Trace, traceOf, isAccess}
 use Rattle.trace.specs.Line.{haltOperand}
-use Rattle.trace.proofs.Tests.{either, last-or-below}
 use Rattle.trace.proofs.Run.{access-runs-on}
 use Rattle.segments.proofs.SegmentFacts.{moves-access, segments-access}
 use Rattle.segments.proofs.SegmentCells.{holding-access}
 use Rattle.cells.specs.Cells.{numberIn}
 use Rattle.stops.specs.Stops.{isStop, stopsBefore}
-use Rattle.stops.proofs.Counting.{stops-grow, next-stop, no-stop-left}
+use Rattle.stops.proofs.Counting.{kept-over, stops-grow, next-stop, no-stop-left}
 use Rattle.stops.proofs.Quiet.{QuietAfter, stop-zero, quiet-event}
 use Rattle.line.specs.declared.Line.{Line}
 use Rattle.line.specs.Cells.{runningIn}
@@ -50,10 +49,7 @@ module _ {tr : Trace} {c : List ℕ} {line : Line} where
 
   -- The cells that are those before event i are those before event p, where no event from i on up to p is a stop.
   pub passed-over : {g i : ℕ} (p : ℕ) → i ≤ p → ListAt tr i c line g → ((q : ℕ) → i ≤ q → q < p → isStop tr q ≡ false) → ListAt tr p c line g
-  passed-over {g} {i} zero h t quiet = let same : i ≡ 0 = omega arith in subst (λ (n : ℕ). ListAt tr n c line g) same t
-  passed-over {g} {i} (suc p) h t quiet =
-      either (last-or-below i (suc p) (omega arith)) (λ same. subst (λ (n : ℕ). ListAt tr n c line g) same t)
-      (λ l. pass-next p (passed-over p (omega arith) t (λ q low high. quiet q low (omega arith))) (quiet p (omega arith) (omega arith)))
+  passed-over {g} = kept-over (isStop tr) (λ n. ListAt tr n c line g) (λ p e t. pass-next p t e)
 
 -- ---- the events at the start
 

@@ -1,9 +1,9 @@
 -- The stops, counted: where the next one is, and that there is none where all are counted. Assumes nothing.
 use Prim.Native.Nat.{ℕ, zero, suc, _<_, _≤_}
-use mathlib.Core.Path.{_≡_, refl, sym, ap, _∙_}
+use mathlib.Core.Path.{_≡_, refl, sym, ap, subst, _∙_}
 use mathlib.Core.Bool.{Bool, true, false}
 use native.Mathlib.Omega.{arith}
-use Rattle.trace.proofs.Tests.{by-test, either, lt-or-le}
+use Rattle.trace.proofs.Tests.{by-test, either, lt-or-le, last-or-below}
 use Rattle.stops.specs.Stops.{stopsBefore}
 
 -- Two that say the same of the first n events count the same.
@@ -59,6 +59,15 @@ module _ (stop : ℕ → Bool) where
   pub no-stop-left : (i n : ℕ) → stopsBefore stop i ≡ stopsBefore stop n → (q : ℕ) → i ≤ q → q < n → stop q ≡ false
   no-stop-left i n e q from below =
       by-test (stop q) (λ s. absurd (omega (arith, stops-grow i q from, stops-rise q n below s))) (λ s. s)
+
+  -- What every event that is no stop keeps holds where no stop is between.
+  pub kept-over : (P : ℕ → Type 0) → ((q : ℕ) → stop q ≡ false → P q → P (suc q))
+      → {i : ℕ} (p : ℕ) → i ≤ p → P i → ((q : ℕ) → i ≤ q → q < p → stop q ≡ false) → P p
+  kept-over P keeps {i} zero h holds quiet = let same : i ≡ 0 = omega arith in subst P same holds
+  kept-over P keeps {i} (suc p) h holds quiet =
+      either (last-or-below i (suc p) (omega arith)) (λ same. subst P same holds)
+      (λ l.
+      keeps p (quiet p (omega arith) (omega arith)) (kept-over P keeps p (omega arith) holds (λ q low high. quiet q low (omega arith))))
 
   -- Else there is a next one.
   pub next-stop : (i n : ℕ) → stopsBefore stop i < stopsBefore stop n → (p : ℕ) × NextStop stop i n p
