@@ -125,8 +125,8 @@ enum { RACEJUDGE_REFUSED = 2 };
  *                                      no two accesses before that event race
  *
  * `links` says how long the chains of the table of joins are after the last event that is looked at: the
- * largest number of links from any task to the top of its tree. After clean that is the end of the trace,
- * after a race t, however early s is; the joins behind t do not count.
+ * largest number of links from any task to the top of its tree, at most RACEJUDGE_MAX_LINKS. After clean
+ * that is the end of the trace, after a race t, however early s is; the joins behind t do not count.
  *
  * The order buffers have at least as many cells as the trace has events. After a race the first t + 1
  * cells of each hold an order of the events 0 to t that keeps every arc: first the other events that

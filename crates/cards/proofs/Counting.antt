@@ -12,13 +12,14 @@ use Rattle.trace.specs.Trace.{traceOf, isAccess, LOCATIONS, WORKSPACE-CELLS}
 use Rattle.trace.specs.Line.{Checked, passes, fails, row, haltOperand}
 use Rattle.trace.specs.Outcome.{Reply, says, refused, Verdict, clean, race, sizes, orderRoom, cleared, Outcome, judgeChecked, judgeOutcome}
 use Rattle.trace.proofs.Tests.{test-eq, test-lt, test-and, tests-fails}
-use Rattle.trace.proofs.Lines.{by-check, located}
+use Rattle.trace.proofs.Lines.{by-check, passes-not-fails, located}
 use Rattle.trace.proofs.Sizes.{Sized, sized-first, says-sized}
 use Rattle.trace.proofs.Demand2.{judge-demand-2}
 use Rattle.cells.specs.Cells.{zeroed}
 use Rattle.cells.proofs.Zeroed.{zeroed-length, zeroed-below, zeroed-cleared}
 use Rattle.sizes.specs.Rows.{rowOf}
 use Rattle.sizes.proofs.Sizing.{buffers-pass}
+use Rattle.chains.proofs.Reported.{links-checked, judge-links}
 use Rattle.told.specs.Codes.{Told, judgeTold, judgeCall, judgeSeen}
 use Rattle.told.proofs.Heard.{seen-said, seen-workspace, seen-first, seen-second}
 use Rattle.cards.specs.Cards.{cardRoom, cardSizes, judgedWith}
@@ -72,12 +73,18 @@ module _ (kinds tasks operands workspace first second : List ℕ) (records : ℕ
 
   module _ (few : Bool) (e : few ≡ (ltb records LOCATIONS && eqb (rowOf checks) 0)) where
     -- `judge_counted` refuses by row 16:
-    pub counted-few : few ≡ true → Counted kinds operands records o (judgeSeen 2 (16 ∷ 0 ∷ 0 ∷ []) workspace first second)
+    pub counted-few : few ≡ true → Counted kinds tasks operands records o (judgeSeen 2 (16 ∷ 0 ∷ 0 ∷ []) workspace first second)
     unfolding judgedWith judgeChecked judgeTold
     counted-few f =
         let both = test-and _ _ (test-lt records LOCATIONS) (test-eq (rowOf checks) 0) .0 (sym e ∙ f) in
         let passed = buffers-pass kinds tasks operands workspace first second (rowOf checks) refl (both .1) in
-        rw (few-sizes _ passed (both .0)) (record { said = refl; of-first = refl; of-second = refl; cells = refl })
+        rw (few-sizes _ passed (both .0)) (record {
+          said = refl;
+          chains = links-checked kinds tasks operands workspace first second (fails 16) (λ n q. absurd (passes-not-fails q refl));
+          of-first = refl;
+          of-second = refl;
+          cells = refl;
+        })
 
     -- or lets the judge answer.
     module _ (f : few ≡ false) where
@@ -97,12 +104,13 @@ module _ (kinds tasks operands workspace first second : List ℕ) (records : ℕ
         answer-clean zero = told-zero (judged .answer) (judged .links) (sym code-is ∙ zero)
 
         -- Any answer but clean is the call's.
-        pub counted-other : code ≢ 0 → Counted kinds operands records o (judgeSeen code values w a b)
+        pub counted-other : code ≢ 0 → Counted kinds tasks operands records o (judgeSeen code values w a b)
         counted-other nonzero =
             let other : judged .answer ≢ says clean = λ q. nonzero (code-is ∙ (ap (λ (r : Reply Verdict). judgeTold r (judged .links) .code) q ∙ told-clean-code (judged .links))) in
             rw (judged-same enough)
             (record {
               said = seen-said judged seen;
+              chains = judge-links kinds tasks operands workspace first second;
               of-first = seen-first judged seen;
               of-second = seen-second judged seen;
               cells = left-other (judged .answer) other kinds operands records (judged .workspace) w (seen-workspace judged seen);
@@ -149,11 +157,12 @@ module _ (kinds tasks operands workspace first second : List ℕ) (records : ℕ
               }
 
           pub counted-clean : (d : List ℕ) → Tallied (untasked kinds operands) (length kinds) w d
-              → Counted kinds operands records o (judgeSeen code values d a b)
+              → Counted kinds tasks operands records o (judgeSeen code values d a b)
           counted-clean d tallied =
               rw (judged-same enough)
               (record {
                 said = seen-said judged seen;
+                chains = judge-links kinds tasks operands workspace first second;
                 of-first = seen-first judged seen;
                 of-second = seen-second judged seen;
                 cells =

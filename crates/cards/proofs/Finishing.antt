@@ -79,7 +79,7 @@ module _ (kinds tasks operands w c : List ℕ) (cards : List Card) where
 -- ---- the call
 
 module _ (kinds tasks operands workspace first second : List ℕ) (cards : List Card) (code : ℕ) (values c a b : List ℕ)
-    (h : Counted kinds operands (length cards) (judgedWith kinds tasks operands workspace first second (length cards)) (judgeSeen code values c a b)) where
+    (h : Counted kinds tasks operands (length cards) (judgedWith kinds tasks operands workspace first second (length cards)) (judgeSeen code values c a b)) where
   abbrev o : Outcome
   o = judgedWith kinds tasks operands workspace first second (length cards)
 

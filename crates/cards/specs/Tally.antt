@@ -10,6 +10,7 @@ use Rattle.trace.specs.Trace.{Trace, traceOf, READ, WRITE, isAccess, LOCATIONS,
 use Rattle.trace.specs.Search.{leastBelow, greatestBelow, countBelow}
 use Rattle.trace.specs.Outcome.{Reply, says, refused, Verdict, clean, race, Outcome}
 use Rattle.cells.specs.Cells.{zeroed}
+use Rattle.trace.specs.Demands.{JudgeLinks}
 use Rattle.told.specs.Codes.{judgeTold, JudgeCall}
 use Rattle.cards.specs.declared.Card.{Card}
 use Rattle.cards.specs.Cards.{accesses, touches, NOWHERE}
@@ -96,8 +97,9 @@ LeftAfter (says (race s t)) kinds operands records w c = c ≡ w
 LeftAfter (refused number position) kinds operands records w c = c ≡ w
 
 -- What `judge_counted` tells and leaves for so many records, where this outcome is asked for: the outcome, but for the tables.
-pub record Counted (kinds operands : List ℕ) (records : ℕ) (o : Outcome) (call : JudgeCall) : Type 0 where
+pub record Counted (kinds tasks operands : List ℕ) (records : ℕ) (o : Outcome) (call : JudgeCall) : Type 0 where
   pub said : call .said ≡ judgeTold (o .answer) (o .links)
+  pub chains : JudgeLinks kinds tasks operands (o .answer) (o .links)
   pub of-first : call .first ≡ o .first
   pub of-second : call .second ≡ o .second
   pub cells : LeftAfter (o .answer) kinds operands records (o .workspace) (call .workspace)

@@ -119,7 +119,7 @@ pub fn judge_counted(
     records: usize,
     values: &mut [u64; 3],
 ) -> u64
-    ensures { λ r. ⌜ Counted (now (kinds .entry)) (now (operands .entry)) records
+    ensures { λ r. ⌜ Counted (now (kinds .entry)) (now (tasks .entry)) (now (operands .entry)) records
         (judgedWith (now (kinds .entry)) (now (tasks .entry)) (now (operands .entry)) (now (ws .entry)) (now (first .entry)) (now (second .entry)) records)
         (judgeSeen r (now (values .exit)) (now (ws .exit)) (now (first .exit)) (now (second .exit))) ⌝ }
 {

@@ -1,17 +1,19 @@
 -- THE NUMBER BESIDE THE JUDGE'S ANSWER (document 02, K2), of the outcome to everything that can be lent: it is the largest number of links that a task has after
 -- the last event looked at, and 0 with a refusal; and after each number of events looked at no task has more than 10. Assumes nothing.
-use Prim.Native.Nat.{ℕ}
+use Prim.Native.Nat.{ℕ, _≤_}
 use mathlib.Core.Path.{_≡_, refl}
 use mathlib.Core.List.{List}
+use native.Mathlib.Omega.{arith}
 use lib.ListN.{length}
 use Rattle.trace.specs.Trace.{Trace, traceOf}
 use Rattle.trace.specs.Line.{Checked, passes, fails, haltOperand, start, lineAfter}
+use Rattle.trace.specs.Joins.{MAX-LINKS}
 use Rattle.trace.specs.Outcome.{Reply, says, refused, Verdict, clean, race, judgement, sizes, orderRoom, lookedAt, linksBeside, Outcome, judgeChecked, judgeOutcome}
 use Rattle.trace.specs.Demands.{KeepsRules, MostLinks, JudgeLinks}
 use Rattle.trace.proofs.Lines.{by-check}
 use Rattle.trace.proofs.Sizes.{sized-first, refused-not-says}
 use Rattle.trace.proofs.Demand2.{demand-2}
-use Rattle.trace.proofs.Chains.{longest-most}
+use Rattle.trace.proofs.Chains.{longest-most, most-few}
 use Rattle.forest.proofs.Joins.{few-links}
 use Rattle.chains.proofs.Building.{bounded}
 
@@ -40,6 +42,10 @@ module _ (tr : Trace) (n : ℕ) where
   beside-refusal (says w) number p same = absurd (refused-not-says same refl)
   beside-refusal (refused row q) number p same = refl
 
+  beside-few : (reply : Reply Verdict) → judgement haltOperand tr n ≡ reply → linksBeside tr n reply ≤ MAX-LINKS
+  beside-few (says v) e = most-few (few-links (kept-looked (says v) e)) (beside-verdict (says v) e v refl)
+  beside-few (refused number p) e = omega (arith, beside-refusal (refused number p) number p refl)
+
 module _ (kinds tasks operands workspace first second : List ℕ) where
   abbrev tr : Trace
   tr = traceOf kinds tasks operands
@@ -52,6 +58,7 @@ module _ (kinds tasks operands workspace first second : List ℕ) where
   said-fails number =
       record {
         bound = bounded (kept-none tr 0);
+        at-most = omega arith;
         with-verdict = λ v e. absurd (refused-not-says refl e);
         with-refusal = λ row position e. refl;
       }
@@ -62,6 +69,7 @@ module _ (kinds tasks operands workspace first second : List ℕ) where
       let reply = judgement haltOperand tr n in
       record {
         bound = rw whole (bounded (kept-looked tr n reply refl));
+        at-most = beside-few tr n reply refl;
         with-verdict = λ v e. rw whole (beside-verdict tr n reply refl v e);
         with-refusal = λ number position e. beside-refusal tr n reply number position e;
       }

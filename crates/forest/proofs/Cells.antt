@@ -190,6 +190,7 @@ module _ {c : List ℕ} {x v a b j k : ℕ} (w : Joinable c x v) (joiner : Found
       record {
         forest-in = u .forest-in;
         table = λ t l. rw (sym (joiner .task), sym (joined .task)) (u .table-is t l);
+        few-before = λ t h k l r. chain-few (w .forest-in .forest) t l r;
         few = λ t h k l r. chain-few (u .forest-in .forest) t l r;
         rest = u .rest;
       }

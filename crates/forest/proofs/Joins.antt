@@ -173,6 +173,6 @@ module _ {tr : Trace} {n : ℕ} (kept : KeepsRules tr n) where
   pub few-links : FewLinks tr n
   few-links =
       record {
-        chain = λ t l. (topOf (joinsAfter tr n) t, linksOf (joinsAfter tr n) t, joins-forest .ends t l);
+        chain = joins-forest .ends;
         few = λ t h k l r. chain-few joins-forest t l r;
       }

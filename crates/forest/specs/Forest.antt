@@ -100,10 +100,11 @@ pub record Joinable (c : List ℕ) (x v : ℕ) : Type 0 where
   pub belowV : v < TASKS
   pub apart : topOf (parents c) x ≢ topOf (parents c) v
 
--- What it leaves where x joins v: the trees of both are one, as document 02 has it, every search still follows at most 10 links, and no cell past the two
--- tables has changed.
+-- What it leaves where x joins v: the trees of both are one, as document 02 has it, every search follows at most 10 links, before and after, and no cell past
+-- the two tables has changed.
 pub record Joined (c : List ℕ) (x v : ℕ) (exit : List ℕ) : Type 0 where
   pub forest-in : ForestIn exit
   pub table : (t : ℕ) → t < TASKS → parents exit t ≡ united (topOf (parents c) x) (topOf (parents c) v) (parents c) t
+  pub few-before : (t h k : ℕ) → t < TASKS → Chain (parents c) t h k → k ≤ MAX-LINKS
   pub few : (t h k : ℕ) → t < TASKS → Chain (parents exit) t h k → k ≤ MAX-LINKS
   pub rest : SameFrom FOREST-CELLS c exit

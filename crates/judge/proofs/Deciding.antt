@@ -20,7 +20,7 @@ use Rattle.stops.specs.Stops.{StopsIn}
 use Rattle.stops.proofs.Standing.{stops-still}
 use Rattle.forest.proofs.Joins.{longest-access}
 use Rattle.chains.specs.Tables.{LinksSay}
-use Rattle.chains.proofs.Building.{kept-earlier}
+use Rattle.chains.proofs.Building.{kept-earlier, bounded}
 use Rattle.cells.specs.Cells.{Rest, SameFrom, NUMBER, numberIn}
 use Rattle.segments.specs.Segments.{segment}
 use Rattle.ranks.specs.Lists.{NEXT}
@@ -135,6 +135,7 @@ module _ {kinds tasks operands entry ordered : List ℕ} {events number : ℕ} (
                   };
               answer = sym (demand-2 tr n .race-iff s t .1 (r .pair));
               beside = said .largest ∙ sym (longest-access tr t (r .pair .pair .conflict .second-access));
+              bound = bounded (r .pair .keeps-rules);
               first = r .first;
               second = r .second;
             }
@@ -147,11 +148,18 @@ module _ {kinds tasks operands entry ordered : List ℕ} {events number : ℕ} (
 
         pub decided-refused : (reply : Reply Verdict) (beside : ℕ) → number ≢ 0 → (reply ≡ refused number events) × (beside ≡ 0)
             → Decided tr n reply beside entry linked b₁ b₁ b₂ b₂
-        unfolding firstOrder secondOrder linksBeside
+        unfolding firstOrder secondOrder linksBeside lookedAt
         decided-refused reply beside met e =
             let b = ranked .rules .met met in
             let is = demand-2 tr n .refused-iff number events .1 (record { inside = b .0; breaks-first = b .1; no-race = no-race }) in
-            rw (e .0) (record { rest = linked-rest; answer = sym is; beside = e .1; first = refl; second = refl })
+            rw (e .0) (record {
+              rest = linked-rest;
+              answer = sym is;
+              beside = e .1;
+              bound = λ m h. said .bound m (omega arith);
+              first = refl;
+              second = refl;
+            })
 
         pub decided-clean : number ≡ 0 → Decided tr n (says clean) links entry linked b₁ b₁ b₂ b₂
         unfolding firstOrder secondOrder linksBeside lookedAt
@@ -162,6 +170,7 @@ module _ {kinds tasks operands entry ordered : List ℕ} {events number : ℕ} (
               rest = linked-rest;
               answer = sym (judgement-clean tr n (k .1) (rw (k .0) at no-race));
               beside = said .largest ∙ ap (longestAfter tr) whole;
+              bound = bounded (k .1);
               first = refl;
               second = refl;
             }

@@ -13,7 +13,7 @@ use Rattle.trace.specs.Demands.{JudgeDemand1, JudgeDemand2, JudgeDemand3, Judge
 use Rattle.trace.proofs.Demand1.{judge-demand-1}
 use Rattle.trace.proofs.Demand2.{judge-demand-2}
 use Rattle.trace.proofs.Demand3.{judge-demand-3}
-use Rattle.chains.proofs.Reported.{judge-links}
+use Rattle.chains.proofs.Reported.{links-checked, judge-links}
 use Rattle.cells.specs.Cells.{zeroed}
 use Rattle.cells.proofs.Rests.{rest-cleared}
 use Rattle.sizes.specs.Rows.{rowOf}
@@ -22,11 +22,22 @@ use Rattle.judge.specs.Entry.{judgeGives, Decided}
 
 module _ (kinds tasks operands workspace first second : List ℕ) (r : Answer) (w a₁ a₂ : List ℕ) where
   -- Past the size checks: the answer, the order buffers, and the workspace cleared.
-  pub examined :
+  examined-gives :
       (n : ℕ) (exit : List ℕ) → Decided (traceOf kinds tasks operands) n (judgeReply r) (judgeLinks r) workspace exit first a₁ second a₂
       → w ≡ zeroed (WORKSPACE-CELLS + n) exit → judgeGives r w a₁ a₂ ≡ judgeChecked kinds tasks operands workspace first second (passes n)
   unfolding judgeChecked judgeGives
-  examined n exit d e = rw (← d .answer) (cc (d .beside, rest-cleared w (d .rest) e, d .first, d .second))
+  examined-gives n exit d e = rw (← d .answer) (cc (d .beside, rest-cleared w (d .rest) e, d .first, d .second))
+
+  pub examined :
+      (exit : List ℕ) → Decided (traceOf kinds tasks operands) (length kinds) (judgeReply r) (judgeLinks r) workspace exit first a₁ second a₂
+      → w ≡ zeroed (WORKSPACE-CELLS + length kinds) exit
+      → (judgeGives r w a₁ a₂ ≡ judgeChecked kinds tasks operands workspace first second (passes (length kinds)))
+      × JudgeLinks kinds tasks operands (judgeReply r) (judgeLinks r)
+  unfolding judgeGives
+  examined exit d e =
+      let gives = examined-gives (length kinds) exit d e in
+      let said = links-checked kinds tasks operands workspace first second (passes (length kinds)) (λ m same. cc same) in
+      (gives, subst (λ (o : Outcome). JudgeLinks kinds tasks operands (o .answer) (o .links)) (sym gives) said)
 
   -- What the judge promises.
   abbrev Promised : Type 0

@@ -62,6 +62,7 @@ fn examine(
     ensures { λ r. ⌜ judgeGives r (now (ws .exit)) (now (first .exit)) (now (second .exit))
         ≡ judgeChecked (now (kinds .entry)) (now (tasks .entry)) (now (operands .entry)) (now (ws .entry)) (now (first .entry)) (now (second .entry))
         (passes (length (now (kinds .entry)))) ⌝ }
+    ensures { λ r. ⌜ JudgeLinks (now (kinds .entry)) (now (tasks .entry)) (now (operands .entry)) (judgeReply r) (judgeLinks r) ⌝ }
 {
     let answer = decide(kinds, tasks, operands, ws, first, second);
     cells::clear(ws, WORKSPACE_CELLS + kinds.len());

@@ -5,7 +5,7 @@ use mathlib.Core.Option.{Option, none, some}
 use native.Mathlib.Omega.{arith}
 use Rattle.trace.specs.Trace.{Trace, TASKS}
 use Rattle.trace.specs.Search.{largestBelow}
-use Rattle.trace.specs.Joins.{Parents, Chain, top, up, topWithin, linksWithin, topOf, linksOf, joinsAfter, longestAfter}
+use Rattle.trace.specs.Joins.{Parents, Chain, top, up, topWithin, linksWithin, topOf, linksOf, MAX-LINKS, joinsAfter, longestAfter}
 use Rattle.trace.specs.Demands.{FewLinks, MostLinks}
 use Rattle.trace.proofs.Tests.{either, last-or-below, lt-or-le}
 
@@ -85,12 +85,14 @@ module _ {tr : Trace} {m : ℕ} (f : FewLinks tr m) where
   unfolding longestAfter
   longest-most =
       let found = largest-has TASKS (linksOf table) (omega arith) in
-      let ends = f .chain (found .0) (found .1) in
-      let same : ends .1 ≡ largestBelow TASKS (linksOf table) = sym (links-of-chain (found .1) (ends .2)) ∙ found .2 in
+      let t = found .0 in
       record {
-        has = (found .0, ends .0, found .1, subst (λ (k : ℕ). Chain table (found .0) (ends .0) k) same (ends .2));
+        has = (t, topOf table t, found .1, subst (λ (k : ℕ). Chain table t (topOf table t) k) (found .2) (f .chain t (found .1)));
         most = λ t h k l r. omega (arith, links-of-chain l r, largest-ge TASKS (linksOf table) t l);
       }
+
+  pub most-few : {links : ℕ} → MostLinks tr m links → links ≤ MAX-LINKS
+  most-few {links} s = let has = s .has in f .few (has .0) (has .1) links (has .2) (has .3)
 
   -- No other number is the largest.
   pub most-decided : {links : ℕ} → MostLinks tr m links → links ≡ longestAfter tr m

@@ -11,7 +11,7 @@ use Rattle.trace.specs.Line.{Line, passes, fails, haltOperand, step, lin
 use Rattle.trace.specs.Graph.{Reach, graphEvents}
 use Rattle.trace.specs.Race.{Conflict, Race, InD}
 use Rattle.trace.specs.Orders.{occurrences, Rising, Order, KeepsArcs, positions, lastWrite, sees}
-use Rattle.trace.specs.Joins.{Chain, MAX-LINKS, joinsAfter}
+use Rattle.trace.specs.Joins.{Chain, topOf, linksOf, MAX-LINKS, joinsAfter}
 use Rattle.trace.specs.Outcome.{Reply, says, refused, Verdict, clean, race, sizes, orderRoom, lookedAt}
 
 -- ---- demand 1
@@ -195,9 +195,9 @@ JudgeDemand3 kinds tasks operands answer b₁ b₂ a₁ a₂ = Demand3 (traceOf 
 
 -- In the table of joins after the first m events:
 module _ (tr : Trace) (m : ℕ) where
-  -- "the links between the task and the top": from each task a chain of them leads to a top; "and is never above 10".
+  -- "the links between the task and the top": from each task a chain of them leads to its top; "and is never above 10".
   pub record FewLinks : Type 0 where
-    pub chain : (t : ℕ) → t < TASKS → (h : ℕ) × (k : ℕ) × Chain (joinsAfter tr m) t h k
+    pub chain : (t : ℕ) → t < TASKS → Chain (joinsAfter tr m) t (topOf (joinsAfter tr m) t) (linksOf (joinsAfter tr m) t)
     pub few : (t h k : ℕ) → t < TASKS → Chain (joinsAfter tr m) t h k → k ≤ MAX-LINKS
 
   -- "the largest such number that any task has"
@@ -209,6 +209,7 @@ module _ (tr : Trace) (m : ℕ) where
 pub record JudgeLinks (kinds tasks operands : List ℕ) (answer : Reply Verdict) (links : ℕ) : Type 0 where
   -- "Every caller's promise carries that bound": after each number of events looked at, of every task.
   pub bound : (m : ℕ) → m ≤ lookedAt (length kinds) answer → FewLinks (traceOf kinds tasks operands) m
+  pub at-most : links ≤ MAX-LINKS
   -- "With clean or race the judge reports the largest such number that any task has after the last event looked at;"
   pub with-verdict : (v : Verdict) → answer ≡ says v → MostLinks (traceOf kinds tasks operands) (lookedAt (length kinds) answer) links
   -- "with a refusal, 0."

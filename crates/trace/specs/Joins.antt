@@ -36,7 +36,8 @@ unfoldable pub linksWithin : ℕ → Parents → ℕ → ℕ
 linksWithin zero parent t = 0
 linksWithin (suc n) parent t = byParent 0 (λ (p : ℕ). suc (linksWithin n parent p)) (parent t)
 
--- The top of the tree that the task t is in, and the number of links between the two: as many as there are tasks are never needed.
+-- The top of the tree that the task t is in, and the number of links between the two. While the rules are kept the table is a forest, and no chain of it has as
+-- many links as there are tasks (`FewLinks`); elsewhere nobody asks.
 unfoldable pub topOf : Parents → ℕ → ℕ
 topOf parent t = topWithin TASKS parent t
 

@@ -1,7 +1,7 @@
 //! The questions about a trace, with buffers of their own.
 
 use crate::raw::{self, WORKSPACE};
-use crate::{Card, Refusal, Trace, LOCATIONS, MAX_EVENTS};
+use crate::{Card, Refusal, Trace, LOCATIONS, MAX_EVENTS, MAX_LINKS};
 
 /// What the judge says of a trace that keeps the rules up to the first race.
 #[derive(Clone, Debug, PartialEq, Eq)]
@@ -73,6 +73,10 @@ impl Verdict {
 /// # Errors
 ///
 /// A refusal by row 1 or 2 or, where no access before it races, by one of the rows 5 to 12.
+///
+/// # Panics
+///
+/// Where the archive that is linked is of version 1 of the C interface.
 pub fn judge(trace: &Trace) -> Result<Verdict, Refusal> {
     let (mut workspace, mut first, mut second) = judge_buffers(trace);
     let told = raw::judge(
@@ -84,6 +88,8 @@ pub fn judge(trace: &Trace) -> Result<Verdict, Refusal> {
         &mut second,
     );
     let [s, t, links] = told.values.map(|value| value as usize);
+    let is_told = links <= MAX_LINKS || told.code == raw::REFUSED;
+    assert!(is_told, "{} is older than version {}: it tells no links", raw::ARCHIVE, raw::VERSION);
     match told.code {
         raw::CLEAN => Ok(Verdict::Clean { links }),
         raw::RACE => {

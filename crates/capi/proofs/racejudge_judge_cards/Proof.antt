@@ -262,7 +262,7 @@ module _ {M : Type 1} (𝓤 : URA M) (H : Heap 𝓤) (A : Atoms 𝓤) (W : Given
   left-values zs = zs .1 .1 .1 .1 .1 .1 .1 .0
 
   abbrev SaysC : ℕ → LastsC → Type 0
-  SaysC r zs = Counted (now x₀) (now x₂) n o (judgeSeen r (left-values zs) (left zs) (left-first zs) (left-second zs))
+  SaysC r zs = Counted (now x₀) (now x₁) (now x₂) n o (judgeSeen r (left-values zs) (left zs) (left-first zs) (left-second zs))
 
   -- what is due after the code r fits
   fits : (r : ℕ) (zs : LastsC) → SaysC r zs → (k : ℕ) → k ≡ dueAfter r → (k ≤ n) × TablesOf (left zs) k

@@ -64,7 +64,7 @@ returns c =
     let decided =
     decided-race (start .pre .0) (ranked .rank .ensures .0) (found .0) (found .1) (linked .longest .ensures) (spread .before .before .if1 .taken)
     (spread .spread .ensures) (told .report .result) (told .report .ensures) in
-    record { rest = decided .rest; answer = decided .answer; beside = decided .beside; first = decided .first; second = decided .second }
+    record { rest = decided .rest; answer = decided .answer; beside = decided .beside; bound = decided .bound; first = decided .first; second = decided .second }
 
 refused : tie.Need-returns-2
 refused c =

@@ -20,7 +20,7 @@ returns-2 : tie.Need-returns-2
 returns-2 c =
     let answered = c .before .before .before .before .before .before in
     let passed = answered .before .before .before .before in
-    promised-examined _ _ _ _ _ _ _ _ _ _ _ (passed .before .buffer-row .ensures) (passed .if1 .left) (answered .examine .ensures)
+    promised-examined _ _ _ _ _ _ _ _ _ _ _ (passed .before .buffer-row .ensures) (passed .if1 .left) (answered .examine .ensures .0)
 
 pub judge-spec : {M : Type 1} → statement M
 judge-spec =
