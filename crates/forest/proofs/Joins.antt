@@ -10,7 +10,7 @@ use borrow.Author.Tests.{eq-eqb, ne-eqb}
 use lib.Dec.{eqb}
 use Rattle.trace.specs.Trace.{Trace, JOIN, isAccess, TASKS}
 use Rattle.trace.specs.Line.{Line, haltOperand}
-use Rattle.trace.specs.Joins.{Parents, alone, top, topOf, linksOf, treeSize, united, joinedBy, joinsAfter, longestAfter}
+use Rattle.trace.specs.Joins.{Parents, alone, top, topOf, treeSize, united, joinedBy, joinsAfter, longestAfter}
 use Rattle.trace.specs.Demands.{KeepsRules, FewLinks}
 use Rattle.trace.proofs.Tests.{either}
 use Rattle.trace.proofs.EventKinds.{access-not-join}
