@@ -1,5 +1,5 @@
 -- Laws that belong to no one function: of tables (Merged, Tops, Hung, Unions, Same), of the joins of a trace (Joins, whose `few-links` is the bound), and of the
--- cells that hold a table (Cells, Climb).
+-- cells that hold a table (Cells, Climb). Runs: the definitions, computed.
 pub mod Merged
 pub mod Tops
 pub mod Hung
@@ -8,3 +8,4 @@ pub mod Same
 pub mod Joins
 pub mod Cells
 pub mod Climb
+pub mod Runs

@@ -7,12 +7,13 @@ use mathlib.Core.Bool.{Bool}
 use mathlib.Core.List.{List, _∷_, _++_}
 use mathlib.Core.Logic.{inl, inr, _↔_}
 use native.Mathlib.Omega.{arith}
-use Rattle.trace.specs.Trace.{Trace}
+use Rattle.trace.specs.Trace.{Trace, TASKS}
 use Rattle.trace.specs.Line.{haltOperand, lineAfter}
 use Rattle.trace.specs.Graph.{Reach}
 use Rattle.trace.specs.Race.{Race}
 use Rattle.trace.specs.Orders.{positions, select}
-use Rattle.trace.specs.Joins.{joinedBy, joinsAfter, longestAfter}
+use Rattle.trace.specs.Search.{largestBelow}
+use Rattle.trace.specs.Joins.{Parents, linksOf, joinedBy, joinsAfter, longestAfter}
 use Rattle.trace.specs.Outcome.{says, refused, race, judgement, inD?, other?, schedule, lookedAt, linksBeside}
 use Rattle.trace.specs.Demands.{KeepsRules, NoRaceBefore, graphOf, IsRefused, IsRace}
 use Rattle.trace.proofs.Tests.{either, tests-map, tests-unique}
@@ -122,7 +123,7 @@ module _ (tr tr′ : Trace) (n n′ t : ℕ) (same : SameEvents tr tr′ (suc t)
   -- in the links beside it,
   pub later-links : (s : ℕ) → linksBeside tr n (says (race s t)) ≡ linksBeside tr′ n′ (says (race s t))
   unfolding linksBeside lookedAt longestAfter
-  later-links s = rw (joins-same tr tr′ n n′ (suc t) same (suc t) (omega arith))
+  later-links s = ap (λ (parent : Parents). largestBelow TASKS (linksOf parent)) (joins-same tr tr′ n n′ (suc t) same (suc t) (omega arith))
 
   refused-carries : (number : ℕ) → IsRefused tr n number t → IsRefused tr′ n′ number t
   refused-carries number r =

@@ -64,7 +64,7 @@ unfoldable pub united : ℕ → ℕ → Parents → Parents
 united a b parent = cond (ltb (treeSize parent a) (treeSize parent b)) (hung a b parent) (hung b a parent)
 
 module _ (tr : Trace) where
-  -- Event n and the table before it.
+  -- The table after event n, from the one before it.
   unfoldable pub joinedBy : ℕ → Parents → Parents
   joinedBy n parent =
       cond (eqb (tr .kind n) JOIN) (united (topOf parent (tr .task n)) (topOf parent (tr .operand n)) parent) parent
