@@ -27,6 +27,9 @@ same-from-refl base c = record { long = refl; same = λ i h. refl }
 pub same-from-trans : {base : ℕ} {c d e : List ℕ} → SameFrom base c d → SameFrom base d e → SameFrom base c e
 same-from-trans r s = record { long = s .long ∙ r .long; same = λ i h. s .same i h ∙ r .same i h }
 
+pub same-from-higher : {base higher : ℕ} {c d : List ℕ} → base ≤ higher → SameFrom base c d → SameFrom higher c d
+same-from-higher le r = record { long = r .long; same = λ i h. r .same i (omega arith) }
+
 pub same-beyond : {base : ℕ} {c d : List ℕ} → base ≤ WORKSPACE-CELLS → SameFrom base c d → SameBeyond c d
 same-beyond low r = record { long = r .long; same = λ i h. r .same i (omega arith) }
 

@@ -1,5 +1,5 @@
 -- The table of joins, event by event: a join is one in the cells, and every other event leaves both tables. Assumes nothing.
-use Prim.Native.Nat.{ℕ, zero, suc, max, _+_, _≤_, _<_}
+use Prim.Native.Nat.{ℕ, zero, suc, _+_, _≤_, _<_}
 use mathlib.Core.Path.{_≡_, refl, sym, ap, _∙_}
 use mathlib.Core.Bool.{true, false, true≢false}
 use mathlib.Core.List.{List}
@@ -10,7 +10,7 @@ use lib.ListN.{length, getD}
 use Rattle.trace.specs.Trace.{Trace, JOIN, TASKS}
 use Rattle.trace.specs.Line.{haltOperand}
 use Rattle.trace.specs.Search.{largestBelow}
-use Rattle.trace.specs.Joins.{Parents, MAX-LINKS, topOf, linksOf, joinsAfter, longestAfter}
+use Rattle.trace.specs.Joins.{Parents, topOf, linksOf, joinsAfter, longestAfter}
 use Rattle.trace.specs.Demands.{KeepsRules}
 use Rattle.trace.proofs.Lines.{passes-earlier}
 use Rattle.trace.proofs.EventKinds.{access-not-join}
@@ -22,7 +22,6 @@ use Rattle.stops.specs.Stops.{isStop, stopsBefore, StopsIn}
 use Rattle.stops.proofs.Counting.{stops-grow, no-stop-left, kept-over}
 use Rattle.stops.proofs.Standing.{stops-still, stop-read}
 use Rattle.stops.proofs.Quiet.{stop-zero, quiet-event}
-use Rattle.forest.specs.Tables.{Found}
 use Rattle.forest.specs.Forest.{FOREST-CELLS, parents, Joinable, Joined}
 use Rattle.forest.proofs.Same.{top-same, links-same, united-same}
 use Rattle.forest.proofs.Joins.{table-kept, table-joined, join-apart, joins-forest, few-links}
@@ -122,11 +121,11 @@ module _ (before c : List ℕ) (room : FOREST-CELLS ≤ length before) (e : c �
         rest = same-from-refl FOREST-CELLS c;
       }
 
--- The next stop i: the cells hold the table before it, if it is one of the events.
+-- The next stop i: the cells hold the table before it, and after the last event if it is past them.
 pub record AtStop (tr : Trace) (n events : ℕ) (c : List ℕ) (k i : ℕ) : Type 0 where
   pub inside : i < n
   pub one-more : stopsBefore (isStop tr) (suc i) ≡ suc k
-  pub joins-at : i ≤ events → JoinsAt tr i c
+  pub joins-at : JoinsAt tr i c
   pub joins-end : events ≤ i → JoinsAt tr events c
 
 module _ {tr : Trace} {n events : ℕ} {before entry c : List ℕ} {k count : ℕ} (first : SameFrom FOREST-CELLS before entry) (stops : StopsIn tr n before count)
@@ -138,7 +137,7 @@ module _ {tr : Trace} {n events : ℕ} {before entry c : List ℕ} {k count : �
       record {
         inside = s .below;
         one-more = s .one-more ∙ ap suc (w .counted);
-        joins-at = λ l. joins-over i (s .from) (w .joins-at) (s .quiet);
+        joins-at = joins-over i (s .from) (w .joins-at) (s .quiet);
         joins-end = λ l. joins-over events within (w .joins-at) (λ q low high. s .quiet q low (omega arith));
       }
 
@@ -167,21 +166,6 @@ module _ {tr : Trace} {n events : ℕ} {before entry c : List ℕ} {k count : �
         }
 
 -- ---- the largest number of links
-
--- Of the first `task` tasks.
-pub most-none : (f : ℕ → ℕ) → 0 ≡ largestBelow 0 f
-unfolding largestBelow
-most-none f = refl
-
-module _ (parent : Parents) {most task : ℕ} where
-  pub most-more : {h k r : ℕ} → task < TASKS → most ≡ largestBelow task (linksOf parent) → most ≤ MAX-LINKS → Found parent task h k → r ≡ max k most
-      → (task + 1 ≤ TASKS) × (r ≡ largestBelow (task + 1) (linksOf parent)) × (r ≤ MAX-LINKS)
-  unfolding largestBelow
-  most-more l so few found e = (omega arith, rw (add-one task) (rw (e, so, found .links)), omega (arith, found .few))
-
-  pub most-all : (task ≤ TASKS) × (most ≡ largestBelow task (linksOf parent)) × (most ≤ MAX-LINKS) → TASKS ≤ task
-      → (most ≡ largestBelow TASKS (linksOf parent)) × (most ≤ MAX-LINKS)
-  most-all so l = let all : task ≡ TASKS = omega (arith, so .0) in (rw (← all) (so .1), so .2)
 
 module _ {tr : Trace} {n : ℕ} {entry exit : List ℕ} (kept : KeepsRules tr n) (taken : Taken tr n entry exit) where
   pub links-say : {links : ℕ} → links ≡ largestBelow TASKS (linksOf (parents exit)) → LinksSay tr n entry exit links

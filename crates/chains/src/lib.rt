@@ -1,20 +1,15 @@
 // How long the chains of the table of joins get (document 02, K2). No answer rests on the table, so it is made where its number is reported: over the joins of
-// the events that were looked at, and then the top of each task is searched.
+// the events that were looked at.
 ghost use mathlib.Core.Path.{_≡_};
-ghost use Prim.Native.Nat.{_+_, _≤_, _<_, suc};
+ghost use Prim.Native.Nat.{_≤_, _<_, suc};
 ghost use lib.ListN.{length};
-ghost use Rattle.trace.specs.Trace.{TASKS};
 ghost use Rattle.trace.specs.Lent.{lentTrace};
-ghost use Rattle.trace.specs.Search.{largestBelow};
-ghost use Rattle.trace.specs.Joins.{linksOf, MAX-LINKS};
 ghost use Rattle.trace.specs.Demands.{KeepsRules};
 ghost use Rattle.trace.proofs.Sizes.{Sized};
 ghost use Rattle.stops.specs.Stops.{StopsIn};
-ghost use Rattle.forest.specs.Forest.{parents, ForestIn};
 ghost use Rattle.chains.specs.Tables.{JoinsAt, Taken, LinksSay};
 use forest::FOREST_CELLS;
 use trace::JOIN;
-use trace::TASKS;
 
 // Event i, if it is a join.
 fn take(kinds: &[u8], tasks: &[u16], operands: &[u16], ws: &mut [u16], i: usize)
@@ -47,20 +42,6 @@ fn build(kinds: &[u8], tasks: &[u16], operands: &[u16], ws: &mut [u16], stops: u
     }
 }
 
-// The most links that the search for a task's top follows.
-fn most_links(ws: &[u16]) -> u16
-    requires { ⌜ ForestIn (now ws) ⌝ }
-    ensures { λ r. ⌜ (r ≡ largestBelow TASKS (linksOf (parents (now (ws .entry))))) × (r ≤ MAX-LINKS) ⌝ }
-{
-    let mut most: u16 = 0;
-    let mut task: u16 = 0;
-    while task < TASKS {
-        most = cells::larger(forest::find(ws, task).links, most);
-        task += 1;
-    }
-    most
-}
-
 // The largest number of links between a task and its top, in the table of joins after so many events.
 pub fn longest(
     kinds: &[u8],
@@ -76,5 +57,5 @@ pub fn longest(
     ensures { λ r. ⌜ LinksSay (lentTrace (kinds .entry) (tasks .entry) (operands .entry)) events (now (ws .entry)) (now (ws .exit)) r ⌝ }
 {
     build(kinds, tasks, operands, ws, stops, events);
-    most_links(ws) as usize
+    forest::most_links(ws) as usize
 }

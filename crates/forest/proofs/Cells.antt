@@ -1,6 +1,6 @@
 -- The cells that hold a forest: cleared ones do, and after a union they hold the table with both trees made one. Assumes nothing.
-use Prim.Native.Nat.{ℕ, suc, _+_, _≤_, _<_}
-use mathlib.Core.Path.{_≡_, sym, ap, subst, _∙_}
+use Prim.Native.Nat.{ℕ, suc, max, _+_, _≤_, _<_}
+use mathlib.Core.Path.{_≡_, refl, sym, ap, subst, _∙_}
 use mathlib.Core.List.{List}
 use mathlib.Core.Logic.{_≢_}
 use mathlib.Core.Option.{none}
@@ -11,16 +11,18 @@ use lib.Dec.{ltb}
 use lib.ListN.{length, getD, set, length-set}
 use lib.Seq.{getD-set-same, getD-set-other}
 use Rattle.trace.specs.Trace.{TASKS}
-use Rattle.trace.specs.Joins.{Parents, alone, treeSize, hung, united}
+use Rattle.trace.specs.Search.{largestBelow}
+use Rattle.trace.specs.Joins.{Parents, alone, linksOf, MAX-LINKS, treeSize, hung, united}
 use Rattle.trace.proofs.Tests.{by-test, either, same-or-not, tests-unique, tests-map, test-lt}
-use Rattle.trace.proofs.Chains.{none-not-some}
+use Rattle.trace.proofs.Chains.{none-not-some, largest-has}
 use Rattle.cells.specs.Cells.{SameFrom}
 use Rattle.forest.specs.Tables.{IsTop, Forest, Found}
-use Rattle.forest.specs.Forest.{LINK, SIZE, FOREST-CELLS, link, size, parentOf, parents, ForestIn, hungIn, smallerIn, unitedIn, Hangable, Unitable, Joinable, Joined}
+use Rattle.forest.specs.Forest.{LINK, SIZE, HEIGHT, FOREST-CELLS, link, size, height, parentOf, parents, ForestIn, hungIn, smallerIn, unitedIn, Hangable, Unitable, Joinable, Joined}
 use Rattle.forest.proofs.Tops.{chain-few}
 use Rattle.forest.proofs.Hung.{hung-same, hung-other, sizes-fit, size-hung, size-other, forest-hung}
 use Rattle.forest.proofs.Same.{Same, size-same, forest-same}
 use Rattle.forest.proofs.Joins.{forest-alone, size-alone}
+use Rattle.forest.proofs.Heights.{heights-alone, heights-same, heights-hung, height-few, largest-height}
 
 -- ---- cleared cells
 
@@ -36,6 +38,7 @@ module _ (c : List ℕ) (room : FOREST-CELLS ≤ length c) (zeros : (i : ℕ) �
         forest = forest-same forest-alone same-start;
         counted = λ h i.
             omega (arith, zeros (SIZE + h) (omega (arith, i .below)), size-same forest-alone same-start h, size-alone h (i .below));
+        heights = heights-same forest-alone same-start (heights-alone (height c) (λ h l. zeros (HEIGHT + h) (omega arith)));
       }
 
 -- ---- one top hung under another
@@ -47,8 +50,9 @@ module _ (c : List ℕ) (x y : ℕ) (room : FOREST-CELLS ≤ length c) (lx : x <
       record {
         long = simp length-set;
         same = λ i l.
-            let d : i ≢ SIZE + y = omega arith in
-            let e : i ≢ LINK + x = omega arith in
+            let d : i ≢ HEIGHT + y = omega arith in
+            let e : i ≢ SIZE + y = omega arith in
+            let g : i ≢ LINK + x = omega arith in
             simp getD-set-other;
       }
 
@@ -56,15 +60,17 @@ module _ (c : List ℕ) (x y : ℕ) (room : FOREST-CELLS ≤ length c) (lx : x <
   link-hung : link (hungIn c x y) x ≡ suc y
   unfolding hungIn
   link-hung =
-      let d : LINK + x ≢ SIZE + y = omega arith in
+      let d : LINK + x ≢ HEIGHT + y = omega arith in
+      let e : LINK + x ≢ SIZE + y = omega arith in
       let l : LINK + x < length c = omega arith in
       simp (getD-set-other, getD-set-same, add-one)
 
   link-other : (t : ℕ) → t < TASKS → t ≢ x → link (hungIn c x y) t ≡ link c t
   unfolding hungIn
   link-other t l n =
-      let d : LINK + t ≢ SIZE + y = omega arith in
-      let e : LINK + t ≢ LINK + x = omega arith in
+      let d : LINK + t ≢ HEIGHT + y = omega arith in
+      let e : LINK + t ≢ SIZE + y = omega arith in
+      let g : LINK + t ≢ LINK + x = omega arith in
       simp getD-set-other
 
   same-hung : Same (hung x y (parents c)) (parents (hungIn c x y))
@@ -77,14 +83,32 @@ module _ (c : List ℕ) (x y : ℕ) (room : FOREST-CELLS ≤ length c) (lx : x <
   cell-hung : size (hungIn c x y) y ≡ size c x + size c y
   unfolding hungIn
   cell-hung =
+      let d : SIZE + y ≢ HEIGHT + y = omega arith in
       let l : SIZE + y < length (set c (LINK + x) (y + 1)) = rw length-set (omega arith) in
-      simp getD-set-same (omega arith)
+      simp (getD-set-other, getD-set-same) (omega arith)
 
   cell-other : (t : ℕ) → t < TASKS → t ≢ y → size (hungIn c x y) t ≡ size c t
   unfolding hungIn
   cell-other t l n =
-      let d : SIZE + t ≢ SIZE + y = omega arith in
-      let e : SIZE + t ≢ LINK + x = omega arith in
+      let d : SIZE + t ≢ HEIGHT + y = omega arith in
+      let e : SIZE + t ≢ SIZE + y = omega arith in
+      let g : SIZE + t ≢ LINK + x = omega arith in
+      simp getD-set-other
+
+  -- One link more leads to y from x's tree, and every other height stays.
+  height-hung : height (hungIn c x y) y ≡ max (height c x + 1) (height c y)
+  unfolding hungIn
+  height-hung =
+      let l : HEIGHT + y < length (set (set c (LINK + x) (y + 1)) (SIZE + y) (getD c (SIZE + x) 0 + getD c (SIZE + y) 0 + 1)) =
+      rw (length-set, length-set) (omega arith) in
+      simp getD-set-same
+
+  height-other : (t : ℕ) → t < TASKS → t ≢ y → height (hungIn c x y) t ≡ height c t
+  unfolding hungIn
+  height-other t l n =
+      let d : HEIGHT + t ≢ HEIGHT + y = omega arith in
+      let e : HEIGHT + t ≢ SIZE + y = omega arith in
+      let g : HEIGHT + t ≢ LINK + x = omega arith in
       simp getD-set-other
 
 module _ {c : List ℕ} (f : ForestIn c) {x y : ℕ} (ix : IsTop (parents c) x) (iy : IsTop (parents c) y) (distinct : x ≢ y) where
@@ -95,6 +119,7 @@ module _ {c : List ℕ} (f : ForestIn c) {x y : ℕ} (ix : IsTop (parents c) x) 
         belowX = ix .below;
         belowY = iy .below;
         fits = omega (arith, f .counted x ix, f .counted y iy, sizes-fit (parents c) distinct);
+        low = height-few (f .forest) (f .heights) x (ix .below);
       }
 
   -- Where y's tree is no smaller, the cells hold the forest with x hung under y.
@@ -127,6 +152,10 @@ module _ {c : List ℕ} (f : ForestIn c) {x y : ℕ} (ix : IsTop (parents c) x) 
           room = rw (hung-rest c x y (f .room) (ix .below) (iy .below) .long) (f .room);
           forest = forest-same forest same;
           counted = λ h i. counted-hung h i ∙ sym (size-same forest same h);
+          heights =
+              heights-same forest same
+              (heights-hung (f .forest) ix iy distinct (f .heights) (height-hung c x y (f .room) (ix .below) (iy .below))
+              (height-other c x y (f .room) (ix .below) (iy .below)));
         }
 
 -- ---- the union of two trees
@@ -194,3 +223,22 @@ module _ {c : List ℕ} {x v a b j k : ℕ} (w : Joinable c x v) (joiner : Found
         few = λ t h k l r. chain-few (u .forest-in .forest) t l r;
         rest = u .rest;
       }
+
+-- ---- the largest height, of the first `task` tasks
+
+pub most-none : (f : ℕ → ℕ) → 0 ≡ largestBelow 0 f
+unfolding largestBelow
+most-none f = refl
+
+pub most-more : (f : ℕ → ℕ) (task : ℕ) {most here next : ℕ} → most ≡ largestBelow task f → here ≡ f task → next ≡ max here most
+    → next ≡ largestBelow (task + 1) f
+unfolding largestBelow
+most-more f task so h e = rw (add-one task) (rw (e, so, h))
+
+pub most-all : {c : List ℕ} {most task : ℕ} → ForestIn c → task ≤ TASKS → TASKS ≤ task → most ≡ largestBelow task (height c)
+    → (most ≡ largestBelow TASKS (linksOf (parents c))) × (most ≤ MAX-LINKS)
+most-all {c} {most} {task} f le ge so =
+    let all : task ≡ TASKS = omega arith in
+    let same : most ≡ largestBelow TASKS (height c) = rw (← all) so in
+    let high = largest-has TASKS (height c) (omega arith) in
+    (same ∙ largest-height (f .forest) (f .heights), omega (arith, high .2, height-few (f .forest) (f .heights) (high .0) (high .1)))

@@ -60,18 +60,18 @@ module _ {parent : Parents} (f : Forest parent) {x y : ℕ} (ix : IsTop parent x
   chain-longer (up {t = t} {p = p} e r) q = up (link-kept t p e) (chain-longer r q)
 
   -- Where a task's top and the links to it are then.
-  record Moved (t h k : ℕ) : Type 0 where
-    chain : Chain after t (topOf after t) (linksOf after t)
-    tops : topOf after t ≡ h
-    links : linksOf after t ≡ k
+  pub record Moved (t h k : ℕ) : Type 0 where
+    pub chain : Chain after t (topOf after t) (linksOf after t)
+    pub tops : topOf after t ≡ h
+    pub links : linksOf after t ≡ k
 
   moved : {t h k : ℕ} → Chain after t h k → k ≤ TASKS → Moved t h k
   moved r few = record { chain = chain-ends r few; tops = chain-top r few; links = chain-links r few }
 
-  moved-other : (t : ℕ) → t < TASKS → topOf parent t ≢ x → Moved t (topOf parent t) (linksOf parent t)
+  pub moved-other : (t : ℕ) → t < TASKS → topOf parent t ≢ x → Moved t (topOf parent t) (linksOf parent t)
   moved-other t l n = moved (chain-other (f .ends t l) n) (omega (arith, links-few f t l))
 
-  moved-longer : (t : ℕ) → t < TASKS → topOf parent t ≡ x → Moved t y (suc (linksOf parent t))
+  pub moved-longer : (t : ℕ) → t < TASKS → topOf parent t ≡ x → Moved t y (suc (linksOf parent t))
   moved-longer t l e = moved (chain-longer (f .ends t l) e) (omega (arith, links-few f t l))
 
   pub top-hung : (t : ℕ) → t < TASKS → topOf after t ≡ merged x y y (topOf parent t)

@@ -26,7 +26,7 @@ use Rattle.forest.proofs.Unions.{forest-united, same-top-united}
 
 -- ---- before the first event
 
-is-top-alone : (t : ℕ) → t < TASKS → IsTop alone t
+pub is-top-alone : (t : ℕ) → t < TASKS → IsTop alone t
 unfolding alone
 is-top-alone t l = record { below = l; free = refl }
 

@@ -15,9 +15,10 @@ use Rattle.trace.proofs.Lines.{graph-kept, located}
 use Rattle.trace.proofs.Sizes.{Sized}
 use Rattle.trace.proofs.Demand2.{demand-2, judgement-clean}
 use Rattle.trace.proofs.Numbers.{Numbers, numbers-agree}
-use Rattle.cells.proofs.Rests.{same-from-trans, same-beyond, sized-same}
+use Rattle.cells.proofs.Rests.{same-from-higher, same-from-trans, same-beyond, sized-same}
 use Rattle.stops.specs.Stops.{StopsIn}
 use Rattle.stops.proofs.Standing.{stops-still}
+use Rattle.forest.specs.Forest.{FOREST-CELLS}
 use Rattle.forest.proofs.Joins.{longest-access}
 use Rattle.chains.specs.Tables.{LinksSay}
 use Rattle.chains.proofs.Building.{kept-earlier, bounded}
@@ -75,8 +76,8 @@ module _ {kinds tasks operands entry ordered : List ℕ} {events number : ℕ} (
         )
 
     module _ {linked : List ℕ} {links : ℕ} (said : LinksSay tr t scanned linked links) where
-      after : SameFrom TABLES ordered linked
-      after = same-from-trans kept (said .rest)
+      after : SameFrom FOREST-CELLS ordered linked
+      after = same-from-trans (same-from-higher (omega arith) kept) (said .rest)
 
       linked-rest : Rest n entry linked
       linked-rest =

@@ -57,7 +57,7 @@ take-requires c κs =
     let stop = build-stop first (asked .1 .0) (span .0) (span .1) (at .loop .inv) (test .loop-test .taken) _ (c .before .before .position .ensures) in
     let inside = c .before .if1 .left in (
       (stop .inside, sized .of-tasks, sized .of-operands),
-      (kept-earlier _ (span .1) (omega arith), stop .joins-at (omega arith)),
+      (kept-earlier _ (span .1) (omega arith), stop .joins-at),
     )
 
 loop-again : tie.Need-loop-again Inv-loop μ-loop

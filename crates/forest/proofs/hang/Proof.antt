@@ -1,4 +1,4 @@
--- `forest::hang` meets its contract: its two stores are those of `hungIn`. Assumes nothing.
+-- `forest::hang` meets its contract: its three stores are those of `hungIn`. Assumes nothing.
 use borrow.Author.Needs.{needs}
 use Rattle.forest.specs.Forest.{hungIn}
 use Rattle.forest.proofs.hang.Statement.{statement}
@@ -16,7 +16,12 @@ hang-spec =
     (λ c κs. search needs)
     (λ c. search needs)
     (λ c. search needs)
+    (λ c κs. search needs)
     (λ c. search needs)
+    (λ c κs. search needs)
+    (λ c. search needs)
+    (λ c. search needs)
+    (λ c κs. search needs)
     (λ c κs. search needs)
     (λ c κs. search needs)
     (λ c. search needs)
