@@ -1,4 +1,4 @@
--- The table of joins, event by event: a join is one in the cells, and every other event leaves both tables. Assumes nothing.
+-- The table of joins, event by event: a join is one in the cells, and every other event leaves the cells. Assumes nothing.
 use Prim.Native.Nat.{ℕ, zero, suc, _+_, _≤_, _<_}
 use mathlib.Core.Path.{_≡_, refl, sym, ap, _∙_}
 use mathlib.Core.Bool.{true, false, true≢false}

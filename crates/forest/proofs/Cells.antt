@@ -1,4 +1,5 @@
--- The cells that hold a forest: cleared ones do, and after a union they hold the table with both trees made one. Assumes nothing.
+-- The cells that hold a forest: cleared ones do, and after a union they hold the table with both trees made one; and the largest height is the most links
+-- that a task has. Assumes nothing.
 use Prim.Native.Nat.{ℕ, suc, max, _+_, _≤_, _<_}
 use mathlib.Core.Path.{_≡_, refl, sym, ap, subst, _∙_}
 use mathlib.Core.List.{List}

@@ -1,4 +1,4 @@
--- `chains::longest` meets its contract: the largest of the searches is that of the table. Assumes nothing.
+-- `chains::longest` meets its contract: the most links in the cells are those of the table. Assumes nothing.
 use borrow.Author.Needs.{needs}
 use Rattle.chains.proofs.Building.{links-say}
 use Rattle.chains.proofs.longest.Statement.{statement}
