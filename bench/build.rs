@@ -12,7 +12,7 @@ use std::path::{Path, PathBuf};
 use std::process::Command;
 
 const PEERS: [&str; 4] = ["twoorders", "unionfind", "pass", "floor"];
-const SHARED: [&str; 2] = ["src/peer.h", "src/hints.h"];
+const SHARED: [&str; 3] = ["src/peer.h", "src/hints.h", "src/kinds.h"];
 const INCLUDE: &str = "../include";
 const HEADER: &str = "../include/racejudge.h";
 const CALLS: [&str; 4] = ["judge", "judge_cards", "ordering", "translate"];

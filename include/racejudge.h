@@ -2,8 +2,9 @@
  * Four calls: racejudge_translate (text to a trace), racejudge_judge, racejudge_judge_cards (the same,
  * with a card for each location), racejudge_ordering.
  *
- * VERSION 2. Both judges store a third value, `links`: a caller that lent them two cells, for version 1,
- * lends three. All else is as it was.
+ * VERSION 3. Kind 5 is a sum, which version 2 refused by row 5. A card counts sums too: a caller that
+ * lent records of 8 bytes, for version 2, lends records of 10. All else is as it was. Version 2 had
+ * brought the third value that both judges store, `links`: for version 1 a caller lent them two cells.
  *
  * Link libcapi.a, which `rt staticlib capi` writes, for x86-64 Linux. It needs only memset of the C
  * library. Every call takes any contents and any lengths: nothing is required of the numbers in the
@@ -17,10 +18,11 @@
  * 25,000 bytes of the stack, the others less than 1,000.
  *
  * A TRACE is three slices of one length. Entry p of each makes event p; positions count from 0.
- *   kinds     RACEJUDGE_READ .. RACEJUDGE_HALT
+ *   kinds     RACEJUDGE_READ .. RACEJUDGE_SUM
  *   tasks     the task that acts, 0 to 1,023
- *   operands  read and write: the location, 0 to 1,023; fork and join: the task, 0 to 1,023; halt: 0
- * At most RACEJUDGE_MAX_EVENTS events.
+ *   operands  read, write and sum: the location, 0 to 1,023; fork and join: the task, 0 to 1,023; halt: 0
+ * At most RACEJUDGE_MAX_EVENTS events. Reads, writes and sums are ACCESSES. A sum adds to what the
+ * location holds, as to a counter: the order of sums among themselves does not matter.
  *
  * THE RULES. The run is serial. At the start the line of tasks holds task 0 alone, and it runs. Only the
  * running task acts. A fork puts the child, whose number is new, immediately left of its parent; the
@@ -30,7 +32,9 @@
  *
  * ARCS lead from each event to the same task's next event, from a fork to the child's first event, and
  * from a task's halt to the join that names it. p REACHES q if p = q or a chain of arcs leads from p to
- * q. Two accesses RACE if they have one location, at least one is a write, and neither reaches the other.
+ * q. Two accesses CONFLICT if they have one location and are neither both reads nor both sums: a write
+ * conflicts with every access of its location, a sum with reads and writes. They RACE if they conflict
+ * and neither reaches the other.
  *
  * THE TABLE OF JOINS puts the 1,024 tasks in trees, each task in one of its own at the start. A join
  * makes one of the joiner's tree and the joined task's: it hangs the top of the smaller, by number of
@@ -49,7 +53,7 @@
  *    2  more than 32,768 events
  *    3  the workspace is too short
  *    4  an order buffer has fewer cells than the trace has events (the judge, with cards or without)
- *    5  the kind is above 4
+ *    5  the kind is above 5
  *    6  task 0 has halted
  *    7  the actor is not the running task
  *    8  the location is above 1,023
@@ -68,8 +72,9 @@
  *   Ta|fork(Tb)|c   task a forks task b
  *   Ta|join(Tb)|c   task a joins task b
  * Numbers are decimal, 0 to 65,535, with no leading zero; c is a source line and is not used. Nothing
- * else is taken: no blank, no carriage return, no empty line. Halts have no lines: where a paused task
- * acts again, the halts of the tasks above it come first. The first 53,274 bytes of a text decide.
+ * else is taken: no blank, no carriage return, no empty line. Sums have no lines, and so no text makes
+ * one. Nor have halts: where a paused task acts again, the halts of the tasks above it come first.
+ * The first 53,274 bytes of a text decide.
  */
 #ifndef RACEJUDGE_H
 #define RACEJUDGE_H
@@ -82,9 +87,9 @@ extern "C" {
 #endif
 
 /* Kinds of event. */
-enum { RACEJUDGE_READ, RACEJUDGE_WRITE, RACEJUDGE_FORK, RACEJUDGE_JOIN, RACEJUDGE_HALT };
+enum { RACEJUDGE_READ, RACEJUDGE_WRITE, RACEJUDGE_FORK, RACEJUDGE_JOIN, RACEJUDGE_HALT, RACEJUDGE_SUM };
 
-#define RACEJUDGE_VERSION 2
+#define RACEJUDGE_VERSION 3
 
 #define RACEJUDGE_MAX_EVENTS 32768
 #define RACEJUDGE_MAX_LINKS 10
@@ -97,10 +102,10 @@ enum { RACEJUDGE_READ, RACEJUDGE_WRITE, RACEJUDGE_FORK, RACEJUDGE_JOIN, RACEJUDG
 #define RACEJUDGE_CARDS 1024
 #define RACEJUDGE_NOWHERE 65535
 
-/* A location's card: how many reads and writes it has, and the positions of the first and the last of
- * them, RACEJUDGE_NOWHERE for both where there is none. */
+/* A location's card: how many reads, writes and sums it has, and the positions of the first and the last
+ * of them all, RACEJUDGE_NOWHERE for both where there is none. */
 typedef struct racejudge_card {
-    uint16_t reads, writes, first, last;
+    uint16_t reads, writes, sums, first, last;
 } racejudge_card;
 
 /* What racejudge_judge and racejudge_judge_cards return. */

@@ -1,5 +1,6 @@
-//! The all-ancestors judge, written from document 01: for every event the set of all events
-//! that reach it, as bits, made from the arcs of document 01's three sentences. Slow and plain.
+//! The all-ancestors judge, written from document 01 and the owner's sentences on sums: for every
+//! event the set of all events that reach it, as bits, made from the arcs of document 01's three
+//! sentences. Slow and plain.
 
 use crate::cards::cards;
 use crate::joins;
@@ -78,15 +79,36 @@ impl Walk {
     }
 }
 
+/// Whether accesses of two kinds to one location conflict: the earlier comes first.
+pub type Conflict = fn(u8, u8) -> bool;
+
+/// They do if at least one is a write. A sum conflicts with a read and with a write, and never with
+/// another sum.
+pub fn conflict(s: u8, t: u8) -> bool {
+    let sum_and_read = matches!((s, t), (SUM, READ) | (READ, SUM));
+    s == WRITE || t == WRITE || sum_and_read
+}
+
 /// The events that reach each event, one row of bits for an event: 134 MB for 32,768 events. The
 /// rows are kept from call to call.
-#[derive(Default)]
 pub struct Ancestors {
+    conflict: Conflict,
     stride: usize,
     rows: Vec<u64>,
 }
 
+impl Default for Ancestors {
+    fn default() -> Self {
+        Ancestors::by(conflict)
+    }
+}
+
 impl Ancestors {
+    /// A judge for whom these kinds conflict.
+    pub fn by(conflict: Conflict) -> Self {
+        Ancestors { conflict, stride: 0, rows: Vec::new() }
+    }
+
     fn make_room(&mut self, events: usize) {
         self.stride = events.div_ceil(64);
         if self.rows.len() < events * self.stride {
@@ -123,10 +145,10 @@ impl Ancestors {
                 Ok(starts) => self.store(t, starts),
                 Err(row) => return Answer::Refused(row, t),
             }
-            let kind = trace.kinds[t];
-            if kind == READ || kind == WRITE {
+            if is_access(trace.kinds[t]) {
                 let earlier = &mut accesses[trace.operands[t] as usize];
-                let conflicts = |s: usize| kind == WRITE || trace.kinds[s] == WRITE;
+                let with = KINDS.map(|kind| (self.conflict)(kind, trace.kinds[t]));
+                let conflicts = |s: usize| with[trace.kinds[s] as usize];
                 if let Some(&s) = earlier.iter().find(|&&s| conflicts(s) && !self.reaches(s, t)) {
                     return Answer::Race(s, t);
                 }
@@ -202,6 +224,13 @@ impl Ancestors {
         let said = self.ordering_answer(trace, p, q);
         Outcome { cleared: WORKSPACE + trace.len(), ..Outcome::untouched(said) }
     }
+}
+
+/// The starts of the arcs into each event of a trace that keeps the rules.
+pub fn arcs(trace: &Trace) -> Vec<[Option<usize>; 2]> {
+    let mut walk = Walk::start();
+    let step = |p: usize| walk.step(trace, p).expect("the rules are kept");
+    (0..trace.len()).map(step).collect()
 }
 
 /// Rows 1 to 3.

@@ -12,9 +12,10 @@ pub struct Builder {
     holder: Vec<u16>,
     /// Numbers not used yet; the last is the next.
     numbers: Vec<u16>,
-    /// For each location the tasks that have read or written it.
+    /// For each location the tasks that have read it, written it or added to it.
     readers: Vec<Vec<u16>>,
     writers: Vec<Vec<u16>>,
+    adders: Vec<Vec<u16>>,
 }
 
 /// Task 0 runs alone. Tasks will be numbered in the order in which they are forked.
@@ -28,6 +29,7 @@ impl Default for Builder {
             numbers: (1..TASKS as u16).rev().collect(),
             readers: vec![Vec::new(); LOCATIONS],
             writers: vec![Vec::new(); LOCATIONS],
+            adders: vec![Vec::new(); LOCATIONS],
         }
     }
 }
@@ -100,16 +102,20 @@ impl Builder {
             tasks.iter().any(|&task| self.left.contains(&self.holder[task as usize]))
         };
         let l = location as usize;
-        unordered(&self.writers[l]) || kind == WRITE && unordered(&self.readers[l])
+        unordered(&self.writers[l])
+            || kind != READ && unordered(&self.readers[l])
+            || kind != SUM && unordered(&self.adders[l])
     }
 
     pub fn access(&mut self, kind: u8, location: u16) {
         let task = self.running();
         self.trace.push(task, kind, location);
-        let list = match kind {
-            READ => &mut self.readers[location as usize],
-            _ => &mut self.writers[location as usize],
+        let lists = match kind {
+            READ => &mut self.readers,
+            SUM => &mut self.adders,
+            _ => &mut self.writers,
         };
+        let list = &mut lists[location as usize];
         if !list.contains(&task) {
             list.push(task);
         }
@@ -123,8 +129,12 @@ impl Builder {
         self.access(WRITE, location);
     }
 
+    pub fn sum(&mut self, location: u16) {
+        self.access(SUM, location);
+    }
+
     /// A read or a write, as likely.
     pub fn touch(&mut self, rng: &mut Rng, location: u16) {
-        self.access(rng.cell(2) as u8, location);
+        self.access([READ, WRITE][rng.below(2)], location);
     }
 }

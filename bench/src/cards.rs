@@ -1,6 +1,6 @@
-//! The slow cards, written from the owner's sentence: for each location, the number of reads, the
-//! number of writes, and the first and last position that touched it, 65,535 for both where none
-//! did. The whole trace is gone through for each location.
+//! The slow cards, written from the owner's sentences: for each location, the number of reads, the
+//! number of writes, the count of sums, and the first and last position that touched it, 65,535 for
+//! both where none did. The whole trace is gone through for each location.
 
 use crate::trace::*;
 
@@ -10,13 +10,14 @@ pub fn cards(trace: &Trace) -> Vec<Card> {
 }
 
 fn card(trace: &Trace, location: u16) -> Card {
-    let touches = |&p: &usize| trace.operands[p] == location && trace.kinds[p] <= WRITE;
+    let touches = |&p: &usize| trace.operands[p] == location && is_access(trace.kinds[p]);
     let touched: Vec<usize> = (0..trace.len()).filter(touches).collect();
     let count = |kind: u8| touched.iter().filter(|&&p| trace.kinds[p] == kind).count() as u16;
     let position = |p: Option<&usize>| p.map_or(NOWHERE, |&p| p as u16);
     Card {
         reads: count(READ),
         writes: count(WRITE),
+        sums: count(SUM),
         first: position(touched.first()),
         last: position(touched.last()),
     }

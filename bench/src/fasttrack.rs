@@ -1,7 +1,7 @@
 //! A FastTrack detector: vector clocks for the tasks, epochs for the last write and, where they
 //! are enough, for the last read of each location; a vector of reads where several unordered tasks
-//! have read. It answers whether and where the first race is, and does less than the judge: no
-//! line rules, no partner, no orders.
+//! have read. Sums, of which several may be unordered too, are kept as reads are. It answers whether
+//! and where the first race is, and does less than the judge: no line rules, no partner, no orders.
 //!
 //! Tuned: 16-bit clocks, vectors only as long as the highest task number met, all memory kept
 //! between calls, no index checked for an access.
@@ -11,30 +11,38 @@ use crate::trace::*;
 /// A clock in the upper half, the task that it belongs to in the lower. 0 is earlier than all.
 type Epoch = u32;
 
-/// In the place of a read epoch: the reads are in a vector, whose number is in the lower half.
+/// In the place of the epoch of a read or a sum: they are in a vector, whose number is in the lower
+/// half.
 const SHARED: Epoch = 1 << 31;
 
+#[derive(Clone, Copy)]
 struct Location {
     write: Epoch,
     read: Epoch,
+    sum: Epoch,
 }
+
+const UNTOUCHED: Location = Location { write: 0, read: 0, sum: 0 };
 
 pub struct FastTrack {
     clocks: Vec<i16>,
     lengths: Vec<usize>,
     locations: Vec<Location>,
-    reads: Vec<i16>,
+    vectors: Vec<i16>,
     free: Vec<u16>,
 }
+
+/// For each location one of reads and one of sums.
+const VECTORS: usize = 2 * LOCATIONS;
 
 impl Default for FastTrack {
     fn default() -> Self {
         FastTrack {
             clocks: vec![0; TASKS * TASKS],
             lengths: vec![0; TASKS],
-            locations: (0..LOCATIONS).map(|_| Location { write: 0, read: 0 }).collect(),
-            reads: vec![0; LOCATIONS * TASKS],
-            free: Vec::with_capacity(LOCATIONS),
+            locations: vec![UNTOUCHED; LOCATIONS],
+            vectors: vec![0; VECTORS * TASKS],
+            free: Vec::with_capacity(VECTORS),
         }
     }
 }
@@ -55,6 +63,7 @@ impl FastTrack {
             let passed = match kinds[i] {
                 READ => self.access::<READ>(x, o),
                 WRITE => self.access::<WRITE>(x, o),
+                SUM => self.access::<SUM>(x, o),
                 FORK => self.fork(x, o),
                 JOIN => self.join(x, o),
                 _ => true,
@@ -67,11 +76,9 @@ impl FastTrack {
     }
 
     fn reset(&mut self) {
-        for location in &mut self.locations {
-            *location = Location { write: 0, read: 0 };
-        }
+        self.locations.fill(UNTOUCHED);
         self.free.clear();
-        self.free.extend(0..LOCATIONS as u16);
+        self.free.extend(0..VECTORS as u16);
         self.clocks[0] = 1;
         self.lengths[0] = 1;
     }
@@ -96,70 +103,91 @@ impl FastTrack {
         epoch >> 16 <= self.clock(x, (epoch & 0xffff) as usize)
     }
 
-    /// Whether a read or a write of location l by task x passes. One at the epoch of the last of
-    /// its kind does; else both are held to the last write.
+    /// Whether an access to location l by task x passes. One at the epoch of the last of its kind
+    /// does; else all are held to the last write, all but reads to the reads, all but sums to the
+    /// sums.
     #[inline(always)]
     unsafe fn access<const KIND: u8>(&mut self, x: usize, l: usize) -> bool {
         let now = self.now(x);
-        let Location { write, read } = *self.locations.get_unchecked(l);
-        if now == if KIND == READ { read } else { write } {
+        let Location { write, read, sum } = *self.locations.get_unchecked(l);
+        let last = match KIND {
+            READ => read,
+            WRITE => write,
+            _ => sum,
+        };
+        if now == last {
             return true;
         }
-        if !self.before(write, x) {
+        if !self.before(write, x) || KIND != READ && !self.are_before(read, x) {
             return false;
         }
-        if KIND == READ {
-            self.note_read(x, l, read, now);
-            return true;
+        // Most locations have no sums.
+        if KIND != SUM && sum != 0 && !self.are_before(sum, x) {
+            return false;
         }
-        self.note_write(x, l, read, now)
+        match KIND {
+            READ => self.locations.get_unchecked_mut(l).read = self.noted(x, read, now),
+            WRITE => self.note_write(l, read, sum, now),
+            _ => self.locations.get_unchecked_mut(l).sum = self.noted(x, sum, now),
+        }
+        true
     }
 
+    /// Whether the reads or the sums that an epoch stands for reach task x's next event.
     #[inline(always)]
-    unsafe fn note_read(&mut self, x: usize, l: usize, read: Epoch, now: Epoch) {
-        if read & SHARED != 0 {
-            let row = (read & 0xffff) as usize;
-            *self.reads.get_unchecked_mut(row * TASKS + x) = (now >> 16) as i16;
-        } else if self.before(read, x) {
-            self.locations.get_unchecked_mut(l).read = now;
-        } else {
-            self.share(x, l, read);
+    unsafe fn are_before(&self, epoch: Epoch, x: usize) -> bool {
+        if epoch & SHARED != 0 {
+            return self.all_before((epoch & 0xffff) as usize, x);
         }
+        self.before(epoch, x)
+    }
+
+    /// What stands for the reads or the sums once there is one more, by task x.
+    #[inline(always)]
+    unsafe fn noted(&mut self, x: usize, epoch: Epoch, now: Epoch) -> Epoch {
+        if epoch & SHARED != 0 {
+            let row = (epoch & 0xffff) as usize;
+            *self.vectors.get_unchecked_mut(row * TASKS + x) = (now >> 16) as i16;
+            return epoch;
+        }
+        if self.before(epoch, x) {
+            return now;
+        }
+        self.share(x, epoch)
     }
 
     #[cold]
-    fn share(&mut self, x: usize, l: usize, read: Epoch) {
-        let row = self.free.pop().expect("a vector for each location") as usize;
-        let vector = &mut self.reads[row * TASKS..][..TASKS];
+    fn share(&mut self, x: usize, epoch: Epoch) -> Epoch {
+        let row = self.free.pop().expect("two vectors for each location") as usize;
+        let vector = &mut self.vectors[row * TASKS..][..TASKS];
         vector.fill(0);
-        vector[(read & 0xffff) as usize] = (read >> 16) as i16;
+        vector[(epoch & 0xffff) as usize] = (epoch >> 16) as i16;
         vector[x] = self.clocks[x * TASKS + x];
-        self.locations[l].read = SHARED | row as u32;
+        SHARED | row as u32
     }
 
-    /// A write is held to the reads as well.
+    /// All that came before reaches the write: vectors are free again.
     #[inline(always)]
-    unsafe fn note_write(&mut self, x: usize, l: usize, read: Epoch, now: Epoch) -> bool {
+    unsafe fn note_write(&mut self, l: usize, read: Epoch, sum: Epoch, now: Epoch) {
+        let location = self.locations.get_unchecked_mut(l);
+        location.write = now;
         if read & SHARED != 0 {
-            if !self.all_before((read & 0xffff) as usize, x) {
-                return false;
-            }
             self.free.push(read as u16);
-            self.locations.get_unchecked_mut(l).read = 0;
-        } else if !self.before(read, x) {
-            return false;
+            location.read = 0;
         }
-        self.locations.get_unchecked_mut(l).write = now;
-        true
+        if sum & SHARED != 0 {
+            self.free.push(sum as u16);
+            location.sum = 0;
+        }
     }
 
     #[inline(never)]
     fn all_before(&self, row: usize, x: usize) -> bool {
-        let vector = &self.reads[row * TASKS..][..TASKS];
+        let vector = &self.vectors[row * TASKS..][..TASKS];
         let length = self.lengths[x];
         let clocks = &self.clocks[x * TASKS..][..length];
-        let later = vector.iter().zip(clocks).fold(0, |n, (read, clock)| n | (read > clock) as i16);
-        let beyond = vector[length..].iter().fold(0, |n, read| n | read);
+        let later = vector.iter().zip(clocks).fold(0, |n, (past, clock)| n | (past > clock) as i16);
+        let beyond = vector[length..].iter().fold(0, |n, past| n | past);
         later == 0 && beyond == 0
     }
 

@@ -2,7 +2,7 @@
 //! form in which an answer comes back: all others compare a `Told` with that of the answer that
 //! they want, or turn it into one.
 
-use crate::trace::{Answer, Card, Ordering, Trace, Translation, LOCATIONS, WORKSPACE};
+use crate::trace::{Answer, Card, Ordering, Trace, Translation, LOCATIONS, SUM, WORKSPACE};
 pub use racejudge::raw::Told;
 use racejudge::raw::{self, JudgeCall, OrderingCall};
 /// A card, as it stands in a lent slice.
@@ -65,8 +65,8 @@ impl From<Translation> for Told<2> {
 }
 
 impl From<Card> for Record {
-    fn from(Card { reads, writes, first, last }: Card) -> Self {
-        Record { reads, writes, first, last }
+    fn from(Card { reads, writes, sums, first, last }: Card) -> Self {
+        Record { reads, writes, sums, first, last }
     }
 }
 
@@ -109,7 +109,8 @@ pub const TWO_ORDERS: Judge =
 pub const UNION_FIND: Judge =
     Judge { name: "union-find C", judge: unionfind_judge, ordering: unionfind_ordering };
 
-/// An older judge, where one is linked. Version 1 leaves the third value unset.
+/// An older judge, where one is linked. Version 1 leaves the third value unset, and 1 and 2 know no
+/// sums.
 #[cfg(before)]
 pub const BEFORE: Option<Judge> =
     Some(Judge { name: "judge before", judge: before_judge, ordering: before_ordering });
@@ -118,6 +119,13 @@ pub const BEFORE: Option<Judge> = None;
 
 /// Safe: the peers in C take any contents and lengths, as the library does.
 impl Judge {
+    /// Whether it takes sums, which it refuses where it is older than they are.
+    pub fn knows_sums(&self) -> bool {
+        let trace = Trace::of(&[(0, SUM, 0)]);
+        let told = self.judge(&trace, &mut vec![0; WORKSPACE + 1], &mut [0], &mut [0]);
+        told.code == raw::CLEAN
+    }
+
     pub fn judge(
         &self,
         trace: &Trace,

@@ -22,7 +22,7 @@ impl Line {
     /// Holds one event to the rules. `Err` is the number of the row that turns it back; nothing
     /// has changed then.
     pub fn step(&mut self, task: u16, kind: u8, operand: u16) -> Result<(), usize> {
-        if kind > HALT {
+        if kind >= NO_KIND {
             return Err(5);
         }
         let Some(&running) = self.running.last() else {
@@ -32,7 +32,7 @@ impl Line {
             return Err(7);
         }
         match kind {
-            READ | WRITE => self.access(operand),
+            READ | WRITE | SUM => self.access(operand),
             FORK => self.fork(task, operand),
             JOIN => self.join(task, operand),
             _ => self.halt(operand),

@@ -9,7 +9,7 @@
 #include <string.h>
 
 #include "hints.h"
-#include "racejudge.h"
+#include "kinds.h"
 
 #define GLUED(name, call) name##_##call
 #define EXPORTED(name, call) GLUED(name, call)
@@ -18,14 +18,21 @@
 __typeof__(racejudge_judge) EXPORTED(NAME, judge);
 __typeof__(racejudge_ordering) EXPORTED(NAME, ordering);
 
-enum {
-    READ = RACEJUDGE_READ,
-    WRITE = RACEJUDGE_WRITE,
-    FORK = RACEJUDGE_FORK,
-    JOIN = RACEJUDGE_JOIN,
-    HALT = RACEJUDGE_HALT
-};
 enum { TASKS = 1024, LOCATIONS = 1024, WORKSPACE = RACEJUDGE_WORKSPACE };
+
+/* A location has four cells side by side: one for each kind of access, in their row, which tells what
+ * an access of that kind conflicts with; the fourth is spare. */
+enum { OF_LOCATION = 4 };
+
+/* For a kind, ones in the cells of those that it conflicts with; none for a move. */
+static const uint64_t CONFLICTS[] = {
+    [READ] = 0x0000ffffffff0000, [WRITE] = 0x0000ffffffffffff, [SUM] = 0x00000000ffffffff};
+
+/* Whether an event of any kind and an access to the same location conflict. */
+static inline int conflict(uint8_t kind, uint8_t access)
+{
+    return CONFLICTS[kind] >> 16 * IN_ROW[access] & 1;
+}
 
 typedef struct {
     const uint8_t *kinds;

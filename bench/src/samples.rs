@@ -11,8 +11,10 @@ struct Mix {
     joins: usize,
     accesses: usize,
     locations: usize,
-    /// In 100 accesses.
-    writes: usize,
+    /// In 100 accesses, those that change what the location holds.
+    changes: usize,
+    /// In 100 of these, the sums; the others are writes.
+    sums: usize,
     /// In 100 accesses that would race, those that are left out.
     care: usize,
     /// Task numbers that are not used.
@@ -28,7 +30,8 @@ impl Mix {
             halts: 1 + rng.below(20),
             joins: rng.one_of(&[0, 4, 20]),
             accesses: rng.one_of(&[6, 20, 100]),
-            writes: rng.below(101),
+            changes: rng.below(101),
+            sums: rng.one_of(&[0, 0, 50, 50, 90]),
             care,
             reserve: numbers - tasks,
         }
@@ -51,16 +54,25 @@ impl Mix {
                 b.join();
             }
         } else {
-            let (kind, l) = (rng.chance(self.writes, 100) as u8, rng.cell(self.locations));
+            let (kind, l) = (self.access(rng), rng.cell(self.locations));
             if !(rng.chance(self.care, 100) && b.would_race(kind, l)) {
                 b.access(kind, l);
             }
         }
     }
+
+    fn access(&self, rng: &mut Rng) -> u8 {
+        match (rng.chance(self.changes, 100), rng.chance(self.sums, 100)) {
+            (false, _) => READ,
+            (true, false) => WRITE,
+            (true, true) => SUM,
+        }
+    }
 }
 
 /// A trace of about n events that keeps the rules, with its own mix of kinds, few or many tasks and
-/// locations. `care` in 100 accesses that would race are left out.
+/// locations. Some have no sums, some as many as writes, some nearly no writes. `care` in 100 accesses
+/// that would race are left out.
 pub fn valid(rng: &mut Rng, n: usize, care: usize) -> Trace {
     let mut b = Builder::shuffled(rng);
     let mix = Mix::drawn(rng, b.numbers_left(), care);
@@ -81,9 +93,14 @@ pub fn noise(rng: &mut Rng, n: usize) -> Trace {
     let mut trace = Trace::default();
     for _ in 0..n {
         let task = if rng.chance(3, 4) { 0 } else { rng.cell(3) };
-        trace.push(task, rng.cell(6) as u8, rng.cell(3));
+        trace.push(task, any_kind(rng), rng.cell(3));
     }
     trace
+}
+
+/// Each kind is as likely, and so is the first number that stands for none.
+fn any_kind(rng: &mut Rng) -> u8 {
+    rng.cell(usize::from(NO_KIND) + 1) as u8
 }
 
 /// Changes a trace in one place, in one of many ways. Mostly one of rows 5 to 12 then holds.
@@ -95,15 +112,15 @@ pub fn damage(rng: &mut Rng, trace: &Trace) -> Trace {
     let p = rng.below(t.len());
     let (task, ..) = t.event(p);
     match rng.below(12) {
-        0 => t.kinds[p] = 5 + rng.cell(251) as u8,
+        0 => t.kinds[p] = NO_KIND + rng.cell(256 - usize::from(NO_KIND)) as u8,
         1 => t.tasks[p] = rng.cell(65_536),
         2 => t.tasks[p] = t.tasks[rng.below(t.len())],
         3 => t.operands[p] = 1_024 + rng.cell(64_512),
         4 => t.operands[p] = t.operands[rng.below(t.len())],
-        5 => t.kinds[p] = rng.cell(5) as u8,
+        5 => t.kinds[p] = rng.cell(usize::from(NO_KIND)) as u8,
         6 => t.remove(p),
         7 => t.insert(p, t.event(p)),
-        8 => t.insert(p, (task, rng.cell(6) as u8, rng.cell(1_030))),
+        8 => t.insert(p, (task, any_kind(rng), rng.cell(1_030))),
         9 => change_operand(&mut t, p, HALT, 1 + rng.cell(65_535)),
         10 => change_operand(&mut t, p, JOIN, rng.cell(1_030)),
         _ => follow_the_end(rng, &mut t, p),
@@ -132,5 +149,5 @@ fn follow_the_end(rng: &mut Rng, t: &mut Trace, p: usize) {
     while let Some(task) = active.pop() {
         t.push(task, HALT, 0);
     }
-    t.push(rng.cell(2), rng.cell(6) as u8, rng.cell(2));
+    t.push(rng.cell(2), any_kind(rng), rng.cell(2));
 }

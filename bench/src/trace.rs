@@ -1,4 +1,4 @@
-//! A trace, the answers, and the limits of document 01.
+//! A trace, the answers, and the limits of document 01, with the kinds and cards of document 02.
 
 use std::fmt;
 
@@ -7,6 +7,20 @@ pub const WRITE: u8 = 1;
 pub const FORK: u8 = 2;
 pub const JOIN: u8 = 3;
 pub const HALT: u8 = 4;
+/// Adds to a location, as to a counter.
+pub const SUM: u8 = 5;
+
+pub const KINDS: [u8; 6] = [READ, WRITE, FORK, JOIN, HALT, SUM];
+
+/// The kinds of access: those whose operand is a location.
+pub const ACCESSES: [u8; 3] = [READ, WRITE, SUM];
+
+/// The first number that stands for no kind.
+pub const NO_KIND: u8 = KINDS.len() as u8;
+
+pub fn is_access(kind: u8) -> bool {
+    ACCESSES.contains(&kind)
+}
 
 /// Task numbers and locations go from 0 to 1,023.
 pub const TASKS: usize = 1024;
@@ -85,7 +99,7 @@ impl fmt::Display for Trace {
         writeln!(f, "kinds {}, tasks {}, operands {}", lengths[0], lengths[1], lengths[2])?;
         for p in 0..lengths.into_iter().min().unwrap_or(0) {
             let (task, kind, operand) = self.event(p);
-            let names = ["read", "write", "fork", "join", "halt"];
+            let names = ["read", "write", "fork", "join", "halt", "sum"];
             match names.get(kind as usize) {
                 Some(name) => writeln!(f, "{p}: {task} {name} {operand}")?,
                 None => writeln!(f, "{p}: {task} kind-{kind} {operand}")?,
@@ -110,13 +124,14 @@ pub enum Answer {
 pub struct Card {
     pub reads: u16,
     pub writes: u16,
+    pub sums: u16,
     /// The first and last position that touches it, or `NOWHERE` for both.
     pub first: u16,
     pub last: u16,
 }
 
 /// The card of a location that no event touches.
-pub const UNTOUCHED: Card = Card { reads: 0, writes: 0, first: NOWHERE, last: NOWHERE };
+pub const UNTOUCHED: Card = Card { reads: 0, writes: 0, sums: 0, first: NOWHERE, last: NOWHERE };
 
 /// What the ordering call says.
 #[derive(Clone, Copy, Debug, PartialEq, Eq)]

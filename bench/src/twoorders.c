@@ -16,30 +16,29 @@
  * What is tuned: what an event and the one before it show is tested for many events at once, so
  * that only moves are looked at one by one; neither moves nor accesses are told apart by a branch,
  * which would be guessed wrong too often; a number is looked up where it is needed, and not written
- * down for each event; the two cells of a location lie side by side; events before the first move,
- * which race with none, are passed over; the orders are written many cells at a time; everything is
- * cleared once at the end.
+ * down for each event; the cells of a location lie side by side and are written as one vector; events
+ * before the first move, which race with none, are passed over; the orders are written many cells at
+ * a time; everything is cleared once at the end.
  *
  * Compiled more than once, under the names NAME_judge and NAME_ordering. */
+
+#include <emmintrin.h>
 
 #include "peer.h"
 
 /* Tables in the workspace. */
 enum {
-    PAIR = 0,         /* 2 cells for a location: the largest number of a write, and of an access */
-    USED = 2064,      /* 1: number used */
-    NEXT = 3088,      /* the segment after each, 0 at the end of the list; then each one's number */
-    PAUSED = 6160,    /* entries of 2 cells: the running task's ancestors */
-    LEFT = 8224,      /* entries of 2 cells: the halted tasks that are not joined */
+    USED = 0,         /* 1: number used */
+    LARGEST = 0,      /* once the rules are done with, 4 cells for a location: the largest number of an
+                         access that conflicts with a read, with a write, with a sum; 0 */
+    PAUSED = 4096,    /* entries of 2 cells: the running task's ancestors */
+    LEFT = 6160,      /* entries of 2 cells: the halted tasks that are not joined */
     TREE = PAUSED,    /* once the stacks are done with, 2 cells for a task: how many tasks its tree
                          has beside it, and its longest chain */
     JOINS = LEFT,     /* likewise, the position of each join */
+    NEXT = 8224,      /* the segment after each, 0 at the end of the list; then each one's number */
     MOVES = WORKSPACE /* the position of each move */
 };
-
-/* The location of a move in the loop over the accesses. No access has it, and the cells that are
- * found from it by the kind of a move are those of no location. */
-enum { NOWHERE = LOCATIONS + 2, PAIR_CELLS = 2 * NOWHERE + HALT + 1 };
 
 /* The running task where none runs; at the bottom of each stack, a task that no event names. */
 enum { NOBODY = 0xffff };
@@ -63,8 +62,8 @@ typedef struct {
 /* Whether event p breaks a rule, if none before it does, by what it is and what is just before. */
 static inline int flawed(Trace trace, size_t p)
 {
-    int other = p > 0 && trace.kinds[p - 1] <= WRITE && trace.tasks[p] != trace.tasks[p - 1];
-    return other || trace.kinds[p] > HALT || (trace.tasks[p] | trace.operands[p]) >= TASKS;
+    int other = p > 0 && !is_move(trace.kinds[p - 1]) && trace.tasks[p] != trace.tasks[p - 1];
+    return other || trace.kinds[p] > SUM || (trace.tasks[p] | trace.operands[p]) >= TASKS;
 }
 
 /* The first event that is flawed, or n. The compiler makes vectors of the loops over a block. */
@@ -79,9 +78,9 @@ static size_t first_flawed(Trace trace)
         uint8_t unknown = 0;
         uint16_t other = 0, all = 0;
         for (size_t j = 0; j < BLOCK; j++)
-            unknown |= kinds[p + j] > HALT;
+            unknown |= kinds[p + j] > SUM;
         for (size_t j = 0; j < BLOCK; j++)
-            other |= (kinds[p + j - 1] <= WRITE) & (tasks[p + j] != tasks[p + j - 1]);
+            other |= !is_move(kinds[p + j - 1]) & (tasks[p + j] != tasks[p + j - 1]);
         for (size_t j = 0; j < BLOCK; j++)
             all |= tasks[p + j] | operands[p + j];
         if (unknown | other | (all >= TASKS))
@@ -92,16 +91,15 @@ static size_t first_flawed(Trace trace)
     return p;
 }
 
-/* For 64 kinds, none above HALT: bit j is 1 where kinds[j] is a move. */
+/* For 64 kinds, none above SUM: bit j is 1 where kinds[j] is a move. */
 static inline uint64_t moves_of_64(const uint8_t *kinds)
 {
     uint64_t moves = 0;
-    for (size_t j = 0; j < 64; j += 8) {
-        uint64_t bytes;
-        memcpy(&bytes, kinds + j, sizeof bytes);
-        /* A sum of 128 or more in each byte from 2 on; then the highest bits side by side. */
-        bytes = (bytes + 0x7e7e7e7e7e7e7e7e) >> 7 & 0x0101010101010101;
-        moves |= (bytes * 0x0102040810204080 >> 56) << j;
+    for (size_t j = 0; j < 64; j += 16) {
+        __m128i bytes = _mm_loadu_si128((const __m128i *)(kinds + j));
+        __m128i from_fork = _mm_cmpgt_epi8(bytes, _mm_set1_epi8(FORK - 1));
+        __m128i to_halt = _mm_cmplt_epi8(bytes, _mm_set1_epi8(HALT + 1));
+        moves |= (uint64_t)_mm_movemask_epi8(_mm_and_si128(from_fork, to_halt)) << j;
     }
     return moves;
 }
@@ -123,7 +121,7 @@ static size_t collect(const uint8_t *restrict kinds, size_t end, uint16_t *restr
     }
     for (; p < end; p++) {
         moves[count] = p;
-        count += kinds[p] > WRITE;
+        count += is_move(kinds[p]);
     }
     return count;
 }
@@ -132,13 +130,13 @@ static size_t collect(const uint8_t *restrict kinds, size_t end, uint16_t *restr
 static uint32_t row_of(Trace trace, uint32_t running, size_t i)
 {
     uint32_t kind = trace.kinds[i];
-    if (kind > HALT)
+    if (kind > SUM)
         return 5;
     if (running == NOBODY)
         return 6;
     if (trace.tasks[i] != running)
         return 7;
-    if (kind <= WRITE)
+    if (!is_move(kind))
         return 8;
     if (kind == FORK)
         return trace.operands[i] < TASKS ? 10 : 9;
@@ -231,25 +229,21 @@ static void number(uint16_t *ws)
     } while (segment != 0);
 }
 
-/* Whether event p races with an earlier one. A write that does not has the largest number of all
- * accesses so far, which is then that of the writes too; a read writes the largest of the accesses
- * twice. *segment is that of the event before p. */
+/* Whether event p races with an earlier one. One that does not has its number put in the cells of
+ * what it conflicts with, where it is larger. *segment is that of the event before p. A move goes to
+ * the cells of a location too, but is held to none and leaves them as they are. */
 static inline int races(Trace trace, uint16_t *ws, size_t *segment, size_t p)
 {
-    size_t kind = trace.kinds[p], location = trace.operands[p];
-    HIDE(location);
-    location = kind > WRITE ? NOWHERE : location;
-    HIDE(location);
-    *segment += kind > WRITE;
-    uint16_t *pair = ws + PAIR + 2 * location;
+    size_t kind = trace.kinds[p];
+    *segment += is_move(kind);
+    uint16_t *cells = ws + LARGEST + OF_LOCATION * trace.operands[p];
     uint16_t own = ws[NEXT + *segment];
-    if (UNLIKELY(own < pair[kind]))
+    if (UNLIKELY(own < cells[IN_ROW[kind]]))
         return 1;
-    uint16_t largest = pair[1] < own ? own : pair[1];
-    ptrdiff_t back = -(ptrdiff_t)kind;
-    HIDE(back);
-    pair[1] = largest;
-    pair[1 + back] = largest;
+    __m128i mine = _mm_shufflelo_epi16(_mm_cvtsi32_si128(own), 0);
+    mine = _mm_and_si128(mine, _mm_cvtsi64_si128(CONFLICTS[kind]));
+    __m128i largest = _mm_max_epi16(_mm_loadl_epi64((const __m128i *)cells), mine);
+    _mm_storel_epi64((__m128i *)cells, largest);
     return 0;
 }
 
@@ -258,7 +252,7 @@ static Place scan(Trace trace, uint16_t *ws, Kept kept)
 {
     if (kept.moves == 0)
         return (Place){kept.events, 0};
-    memset(ws + PAIR, 0, PAIR_CELLS * sizeof *ws);
+    memset(ws + LARGEST, 0, OF_LOCATION * LOCATIONS * sizeof *ws);
     size_t segment = 1, p = ws[MOVES] + 1;
     for (; p + ROW <= kept.events; p += ROW)
         for (size_t j = 0; j < ROW; j++)
@@ -281,15 +275,15 @@ static inline int in_block(const uint16_t *operands, uint16_t location)
 /* The earliest access that the one at `race` races with. */
 static Place partner(Trace trace, const uint16_t *ws, Place race)
 {
-    uint16_t kind = trace.kinds[race.at], location = trace.operands[race.at];
+    uint8_t kind = trace.kinds[race.at];
+    uint16_t location = trace.operands[race.at];
     uint16_t own = ws[NEXT + race.segment];
     size_t segment = 0;
     for (size_t p = 0;; p += BLOCK) {
         if (p + BLOCK <= race.at && !in_block(trace.operands + p, location))
             continue;
         for (size_t s = p; s < p + BLOCK; s++) {
-            if (trace.operands[s] != location || trace.kinds[s] > WRITE ||
-                (trace.kinds[s] | kind) == READ)
+            if (trace.operands[s] != location || !conflict(trace.kinds[s], kind))
                 continue;
             while (segment < race.segment && ws[MOVES + segment] < s)
                 segment++;

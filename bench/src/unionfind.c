@@ -3,16 +3,16 @@
  *
  * Two stacks (halted tasks left of the running one; the running task over its paused ancestors), a
  * union-find forest by size with no path compression, which is the table of joins, a flag at each
- * top (the group is in left), and for each location two tasks: one of the leftmost group with an
- * access (what a write conflicts with) and one of the leftmost group with a write (what a read
- * conflicts with).
+ * top (the group is in left), and for each location three tasks C(read), C(write) and C(sum): for
+ * each kind of access one of the leftmost group with an access that it conflicts with.
  *
- * What is tuned: the two cells of a location lie side by side, are read and written as one word,
- * and name the top of the accessing task's group, so that the next search is short; the flag sits
+ * What is tuned: the cells of a location lie side by side, are read and written as one word, and
+ * name the top of the accessing task's group, so that the next search is short; the flag sits
  * in the top's own link cell; the stacks hold each task's top, so that halt and join search
  * nothing; the longest chain of a tree stands at its top, so that none is climbed for the number of
- * links; accesses have a loop of their own; the orders are written in one pass with no branch;
- * everything is cleared once at the end.
+ * links; that kinds are known is tested for many events at once, before all else; accesses have a
+ * loop of their own; the orders are written in one pass with no branch; everything is cleared once
+ * at the end.
  *
  * Compiled under the names NAME_judge and NAME_ordering. */
 
@@ -20,34 +20,59 @@
 
 /* Tables in the workspace. */
 enum {
-    PAIR = 0,          /* 2 cells for a location: C(write), C(read) */
-    SIZE = 2048,       /* 0: number never used */
-    LINK = 3072,       /* 0: top, not in left; IN_LEFT: top, in left; else parent + 1 */
-    ACTIVE = 4096,     /* the running task is the last */
-    ACTIVE_TOP = 5120, /* the top of its group */
-    LEFT = 6144,
-    LEFT_TOP = 7168,
-    LIVE_T = 8192, /* on a race: 1 where the task's group is not in left, before t */
-    LIVE_S = 9216, /* the same before s */
-    CHAIN = 10240  /* at a top: the most links from a task to it */
+    LEFTMOST = 0,      /* 4 cells for a location: C(read), C(write), C(sum), 0 */
+    LIVE_T = 0,        /* on a race: 1 where the task's group is not in left, before t */
+    LIVE_S = 1024,     /* the same before s */
+    SIZE = 4096,       /* 0: number never used */
+    LINK = 5120,       /* 0: top, not in left; IN_LEFT: top, in left; else parent + 1 */
+    ACTIVE = 6144,     /* the running task is the last */
+    ACTIVE_TOP = 7168, /* the top of its group */
+    LEFT = 8192,
+    LEFT_TOP = 9216,
+    CHAIN = 10240 /* at a top: the most links from a task to it */
 };
 enum { IN_LEFT = 0xffff };
+
+/* Kinds that are tested together. */
+enum { BLOCK = 128 };
 
 /* The depths of the two stacks, and the longest chain. */
 typedef struct {
     uint32_t active, left, links;
 } Line;
 
-static inline uint32_t pair_at(const uint16_t *ws, uint32_t l)
+/* The first event of no known kind, or n. The compiler makes vectors of the loop over a block. */
+static size_t first_unknown(const uint8_t *kinds, size_t n)
 {
-    uint32_t both;
-    memcpy(&both, ws + PAIR + 2 * l, sizeof both);
-    return both;
+    size_t i = 0;
+    for (; i + BLOCK <= n; i += BLOCK) {
+        uint8_t unknown = 0;
+        for (size_t j = 0; j < BLOCK; j++)
+            unknown |= kinds[i + j] > SUM;
+        if (unknown)
+            break;
+    }
+    while (i < n && kinds[i] <= SUM)
+        i++;
+    return i;
 }
 
-static inline void put_pair(uint16_t *ws, uint32_t l, uint32_t both)
+static inline uint64_t cells_at(const uint16_t *ws, uint32_t l)
 {
-    memcpy(ws + PAIR + 2 * l, &both, sizeof both);
+    uint64_t cells;
+    memcpy(&cells, ws + LEFTMOST + OF_LOCATION * l, sizeof cells);
+    return cells;
+}
+
+static inline void put_cells(uint16_t *ws, uint32_t l, uint64_t cells)
+{
+    memcpy(ws + LEFTMOST + OF_LOCATION * l, &cells, sizeof cells);
+}
+
+/* A task in the cell of a kind of access. */
+static inline uint64_t in_cell(uint64_t task, uint32_t kind)
+{
+    return task << 16 * IN_ROW[kind];
 }
 
 /* The top of a task's group; *in_left is its flag. */
@@ -137,18 +162,16 @@ static inline uint32_t move_line(uint16_t *ws, Line *line, uint32_t kind, uint32
     return halt_task(ws, line, operand);
 }
 
-/* Holds event i to the rules, x being the running task, and moves the line: the row that turns it
- * back, or 0. */
+/* Holds event i, whose kind is known, to the rules, x being the running task, and moves the line: the
+ * row that turns it back, or 0. */
 static inline uint32_t step(Trace trace, uint16_t *ws, Line *line, uint32_t x, size_t i)
 {
     uint32_t kind = trace.kinds[i], operand = trace.operands[i];
-    if (UNLIKELY(kind > HALT))
-        return 5;
     if (UNLIKELY(line->active == 0))
         return 6;
     if (UNLIKELY(trace.tasks[i] != x))
         return 7;
-    if (LIKELY(kind > WRITE))
+    if (LIKELY(is_move(kind)))
         return move_line(ws, line, kind, operand);
     return operand < LOCATIONS ? 0 : 8;
 }
@@ -169,7 +192,7 @@ static void rerun(Trace trace, uint16_t *ws, size_t s)
 {
     Line line = start(ws);
     for (size_t i = 0; i < s; i++)
-        if (trace.kinds[i] > WRITE)
+        if (is_move(trace.kinds[i]))
             move_line(ws, &line, trace.kinds[i], trace.operands[i]);
 }
 
@@ -177,8 +200,8 @@ static void rerun(Trace trace, uint16_t *ws, size_t s)
 static size_t partner(Trace trace, const uint16_t *live, size_t t)
 {
     size_t s = 0;
-    while (trace.operands[s] != trace.operands[t] || trace.kinds[s] > WRITE ||
-           (trace.kinds[s] | trace.kinds[t]) == READ || live[trace.tasks[s]])
+    while (trace.operands[s] != trace.operands[t] || !conflict(trace.kinds[s], trace.kinds[t]) ||
+           live[trace.tasks[s]])
         s++;
     return s;
 }
@@ -230,31 +253,34 @@ __attribute__((noinline)) static size_t report(Trace trace, uint16_t *ws, uint16
  * passed access name `top`, the top of x's group. */
 static inline size_t accesses(Trace trace, uint16_t *ws, uint32_t x, uint32_t top, size_t i)
 {
-    uint32_t top_twice = top | top << 16;
+    uint64_t everywhere = in_cell(top, READ) | in_cell(top, WRITE) | in_cell(top, SUM);
     for (; i < trace.n; i++) {
         uint32_t kind = trace.kinds[i], l = trace.operands[i];
-        if (UNLIKELY((kind > WRITE) | (trace.tasks[i] != x) | (l >= LOCATIONS)))
+        if (UNLIKELY(is_move(kind) | (trace.tasks[i] != x) | (l >= LOCATIONS)))
             return i;
-        uint32_t both = pair_at(ws, l);
-        if (both == top_twice)
+        uint64_t cells = cells_at(ws, l);
+        if (cells == everywhere)
             continue;
-        uint32_t any = both & 0xffff;
+        uint32_t any = cells >> 16 & 0xffff;
         if (any != top) {
             int in_left;
             any = find(ws, any, &in_left);
             if (UNLIKELY(in_left)) {
                 if (kind == WRITE)
                     return i;
-                uint32_t writer = find(ws, both >> 16, &in_left);
+                /* If it passes, only accesses of its own kind are in left: the cells of the other
+                 * kinds name groups there, further left than the running one, and stay. */
+                uint32_t other = find(ws, cells >> 16 * IN_ROW[kind] & 0xffff, &in_left);
                 if (UNLIKELY(in_left))
                     return i;
-                put_pair(ws, l, any | writer << 16);
+                uint64_t found = in_cell(0xffff, WRITE) | in_cell(0xffff, kind);
+                put_cells(ws, l, (cells & ~found) | in_cell(any, WRITE) | in_cell(other, kind));
                 continue;
             }
         }
-        /* A read leaves C(read) as it is. */
-        uint32_t keep = (kind - 1) & 0xffff0000;
-        put_pair(ws, l, (both & keep) | (top_twice & ~keep));
+        /* A read leaves C(read) as it is, a sum C(sum). */
+        uint64_t change = CONFLICTS[kind];
+        put_cells(ws, l, (cells & ~change) | (everywhere & change));
     }
     return i;
 }
@@ -263,7 +289,7 @@ static inline size_t accesses(Trace trace, uint16_t *ws, uint32_t x, uint32_t to
 static inline uint64_t judge_events(Trace trace, uint16_t *ws, uint16_t *first, uint16_t *second,
                                     uint64_t *values)
 {
-    memset(ws + PAIR, 0, 2 * LOCATIONS * sizeof *ws);
+    memset(ws + LEFTMOST, 0, OF_LOCATION * LOCATIONS * sizeof *ws);
     Line line = start(ws);
     for (size_t i = 0; i < trace.n; i++) {
         uint32_t x = 0;
@@ -278,7 +304,7 @@ static inline uint64_t judge_events(Trace trace, uint16_t *ws, uint16_t *first, 
         uint32_t row = step(trace, ws, &line, x, i);
         if (UNLIKELY(row != 0))
             return say_judged(values, RACEJUDGE_REFUSED, row, i, 0);
-        if (UNLIKELY(trace.kinds[i] <= WRITE))
+        if (UNLIKELY(!is_move(trace.kinds[i])))
             return say_judged(values, RACEJUDGE_RACE, report(trace, ws, first, second, i), i,
                               line.links);
     }
@@ -295,9 +321,12 @@ uint64_t EXPORTED(NAME, judge)(const uint8_t *kinds, size_t n, const uint16_t *t
         row = 4;
     if (row != 0)
         return say_judged(values, RACEJUDGE_REFUSED, row, 0, 0);
+    const Trace known = {kinds, tasks, operands, first_unknown(kinds, n)};
     uint64_t said = say_judged(values, RACEJUDGE_CLEAN, 0, 0, 0);
-    if (n != 0)
-        said = judge_events((Trace){kinds, tasks, operands, n}, ws, first, second, values);
+    if (known.n != 0)
+        said = judge_events(known, ws, first, second, values);
+    if (said == RACEJUDGE_CLEAN && known.n < n)
+        said = say_judged(values, RACEJUDGE_REFUSED, 5, known.n, 0);
     memset(ws, 0, (WORKSPACE + n) * sizeof *ws);
     return said;
 }
@@ -311,7 +340,7 @@ static inline uint32_t walk(Trace trace, uint16_t *ws, Line *line, size_t *at, s
         uint32_t x = 0;
         if (LIKELY(line->active != 0)) {
             x = ws[ACTIVE + line->active - 1];
-            while (i < end && LIKELY((trace.kinds[i] <= WRITE) & (trace.tasks[i] == x) &
+            while (i < end && LIKELY(!is_move(trace.kinds[i]) & (trace.tasks[i] == x) &
                                      (trace.operands[i] < LOCATIONS)))
                 i++;
             if (i == end)
@@ -333,11 +362,11 @@ uint64_t EXPORTED(NAME, ordering)(const uint8_t *kinds, size_t n, const uint16_t
     uint64_t row = size_row(n, tasks_len, operands_len, ws_len);
     if (row != 0)
         return say(values, RACEJUDGE_REFUSED, row, 0);
-    const Trace trace = {kinds, tasks, operands, n};
+    const Trace trace = {kinds, tasks, operands, first_unknown(kinds, n)};
     Line line = start(ws);
     size_t at = 0;
     int yes = p == q;
-    if (p < q && q < n) {
+    if (p < q && q < trace.n) {
         /* A join is tested after its merge, any other event before its step. */
         row = walk(trace, ws, &line, &at, kinds[q] == JOIN ? q + 1 : q);
         if (row == 0) {
@@ -347,7 +376,9 @@ uint64_t EXPORTED(NAME, ordering)(const uint8_t *kinds, size_t n, const uint16_t
         }
     }
     if (row == 0)
-        row = walk(trace, ws, &line, &at, n);
+        row = walk(trace, ws, &line, &at, trace.n);
+    if (row == 0 && at < n)
+        row = 5;
     if (row == 0 && (p >= n || q >= n)) {
         row = 13;
         at = 0;

@@ -24,7 +24,7 @@ const fn racing(name: &'static str, make: Make, expected: fn(usize) -> Answer) -
 }
 
 /// The workloads of the table, in its order.
-pub const WORKLOADS: [Workload; 11] = [
+pub const WORKLOADS: [Workload; 12] = [
     clean("pipeline of 32 stages", pipeline),
     clean("fork tree", tree),
     clean("one task alone", alone),
@@ -32,6 +32,7 @@ pub const WORKLOADS: [Workload; 11] = [
     clean("chains of 8 climbed often", deep_task),
     clean("chains of 7 grown 15 times", regrown),
     clean("random, 1,024 locations", random),
+    clean("counters that all tasks add to", counters),
     racing("race at the end, early partner", late_race_early_partner, |n| Answer::Race(1, n - 1)),
     racing("race at the end, late partner", late_race_late_partner, |n| Answer::Race(n - 3, n - 1)),
     racing("race at event 3", early_race, |_| Answer::Race(1, 3)),
@@ -363,6 +364,35 @@ fn random_access(b: &mut Builder, rng: &mut Rng, locations: usize) {
             return b.access(kind, l);
         }
     }
+}
+
+/// In each of many rounds (32 for 32,768 events) tasks beside each other add to drop counters and use
+/// a location of their own; task 0 joins them all, reads each counter and sets it back.
+pub fn counters(n: usize, rng: &mut Rng) -> Trace {
+    const COUNTERS: u16 = 16;
+    let mut b = Builder::default();
+    let rounds = (children(n) + 1).isqrt();
+    let tasks = children(n) / rounds;
+    let each = (n / rounds - 2 * usize::from(COUNTERS)) / tasks - 3;
+    for _ in 0..rounds {
+        for task in 0..tasks {
+            b.fork();
+            for _ in 0..each {
+                match rng.below(3) {
+                    0 => b.touch(rng, COUNTERS + task as u16),
+                    _ => b.sum(rng.cell(COUNTERS.into())),
+                }
+            }
+            b.halt();
+        }
+        b.join_all();
+        (0..COUNTERS).for_each(|counter| b.read(counter));
+        (0..COUNTERS).for_each(|counter| b.write(counter));
+    }
+    while b.trace.len() < n {
+        b.sum(rng.cell(COUNTERS.into()));
+    }
+    b.trace
 }
 
 /// Event 1 writes a location that no other touches until the very last event.

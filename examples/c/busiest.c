@@ -2,8 +2,8 @@
  * a result each at 7 and 8, and prints the two locations that are touched most and how long the
  * chains of joins are:
  *
- *     location 3: reads 3, writes 1, first at event 0, last at event 7
- *     location 7: reads 2, writes 1, first at event 4, last at event 14
+ *     location 3: reads 3, writes 1, sums 0, first at event 0, last at event 7
+ *     location 7: reads 2, writes 1, sums 0, first at event 4, last at event 14
  *     links in the longest chain of joins: 1
  *
  * `examples/c/run` builds and runs it. */
@@ -33,7 +33,7 @@ static racejudge_card cards[RACEJUDGE_CARDS];
 
 static uint32_t accesses(size_t location)
 {
-    return cards[location].reads + cards[location].writes;
+    return cards[location].reads + cards[location].writes + cards[location].sums;
 }
 
 /* The first of those that are touched most. */
@@ -53,10 +53,10 @@ static void print_busiest(void)
         racejudge_card *card = &cards[location];
         if (card->first == RACEJUDGE_NOWHERE)
             return;
-        printf("location %zu: reads %u, writes %u, first at event %u, last at event %u\n", location,
-               card->reads, card->writes, card->first, card->last);
+        printf("location %zu: reads %u, writes %u, sums %u, first at event %u, last at event %u\n",
+               location, card->reads, card->writes, card->sums, card->first, card->last);
         /* The next is the busiest of the others. */
-        card->reads = card->writes = 0;
+        card->reads = card->writes = card->sums = 0;
     }
 }
 

@@ -12,7 +12,7 @@ use Rattle.cards.proofs.Card.Laws as laws
 
 -- The bytes of a record.
 abbrev pub CARD-BYTES : ℕ
-CARD-BYTES = 8
+CARD-BYTES = 10
 
 abbrev pub numbers : List ℕ → Vals
 numbers [] = vnil

@@ -1,14 +1,14 @@
 -- One law for each return of the small functions. Assumes nothing.
 use Prim.Native.Nat.{ℕ, _+_, _-_, _≤_, _<_}
-use mathlib.Core.Path.{_≡_, refl, sym, ap, _∙_}
-use mathlib.Core.Bool.{Bool, false, _&&_}
+use mathlib.Core.Path.{_≡_, ap, _∙_}
+use mathlib.Core.Bool.{false, _&&_}
 use mathlib.Core.List.{List}
 use mathlib.Core.Logic.{_≢_}
 use native.Mathlib.Omega.{arith}
 use lib.Dec.{eqb, ltb}
 use lib.ListN.{length, getD, set}
 use borrow.Author.Tests.{eq-eqb, ne-eqb, lt-ltb, le-ltb}
-use Rattle.trace.specs.Trace.{READ, WRITE, LOCATIONS, MAX-EVENTS}
+use Rattle.trace.specs.Trace.{READ, WRITE, SUM, LOCATIONS, MAX-EVENTS}
 use Rattle.cells.specs.Cells.{zeroed}
 use Rattle.cards.specs.declared.Card.{Card}
 use Rattle.cards.specs.Cards.{NOWHERE}
@@ -39,7 +39,15 @@ unfolding positionIn
 position-some cell e = rw (ne-eqb cell 0 e)
 
 pub card-made : (c : List ℕ) (l f g : ℕ) → f ≡ positionIn (getD c (FIRST + l) 0) → g ≡ positionIn (getD c (LAST + l) 0)
-    → _≡_ {A = Card} (record { reads = getD c (countsOf READ + l) 0; writes = getD c (countsOf WRITE + l) 0; first = f; last = g }) (cardIn c l)
+    → _≡_ {A = Card}
+    (record {
+      reads = getD c (countsOf READ + l) 0;
+      writes = getD c (countsOf WRITE + l) 0;
+      sums = getD c (countsOf SUM + l) 0;
+      first = f;
+      last = g;
+    })
+    (cardIn c l)
 unfolding cardIn
 card-made c l f g e h = cc (e, h)
 

@@ -1,13 +1,13 @@
 -- What K1 demands of a card and of the records is what the outcome has; and the cards of a run, and row 16, computed. Assumes nothing.
-use Prim.Native.Nat.{ℕ, _+_, _<_, _≤_}
-use mathlib.Core.Path.{_≡_, refl, sym, ap, _∙_}
-use mathlib.Core.Bool.{true, false, _&&_, true≢false}
+use Prim.Native.Nat.{ℕ, _<_, _≤_}
+use mathlib.Core.Path.{_≡_, refl, sym, _∙_}
+use mathlib.Core.Bool.{true, false, true≢false}
 use mathlib.Core.List.{List, [], _∷_}
 use mathlib.Core.Option.{Option, none, some}
 use native.Mathlib.Omega.{arith}
-use lib.ListN.{length, getD}
+use lib.ListN.{length}
 use Rattle.trace.specs.Trace.{Trace, traceOf, isAccess, LOCATIONS}
-use Rattle.trace.specs.Line.{Checked, passes, fails, row}
+use Rattle.trace.specs.Line.{passes, fails, row}
 use Rattle.trace.specs.Search.{leastBelow, greatestBelow, countBelow}
 use Rattle.trace.specs.Outcome.{Reply, says, refused, Verdict, clean, race}
 use Rattle.trace.proofs.Sizes.{refused-not-says}
@@ -52,6 +52,7 @@ module _ (tr : Trace) (n l : ℕ) where
       record {
         reads = refl;
         writes = refl;
+        sums = refl;
         untouched = λ never. (first-none (leastBelow n (touches tr l)) least never, last-none (greatestBelow n (touches tr l)) greatest never);
         first-touches = first-some (leastBelow n (touches tr l)) least;
         last-touches = last-some (greatestBelow n (touches tr l)) greatest;
@@ -83,15 +84,17 @@ cards-held tr n (refused number position) cards enough =
 
 -- ---- computed
 
--- Document 01's run in which a sibling joins the reader: 0 fork 1, 1 read 7, 1 halt, 0 read 7, 0 fork 2, 2 join 1, 2 halt, 0 join 2, 0 write 7.
+-- Document 01's run in which a sibling joins the reader: 0 fork 1, 1 read 7, 1 halt, 0 read 7, 0 fork 2, 2 join 1, 2 halt, 0 join 2, 0 write 7;
+-- and behind it 0 sum 7.
 abbrev run : Trace
 run =
-    traceOf (2 ∷ 0 ∷ 4 ∷ 0 ∷ 2 ∷ 3 ∷ 4 ∷ 3 ∷ 1 ∷ []) (0 ∷ 1 ∷ 1 ∷ 0 ∷ 0 ∷ 2 ∷ 2 ∷ 0 ∷ 0 ∷ [])
-    (1 ∷ 7 ∷ 0 ∷ 7 ∷ 2 ∷ 1 ∷ 0 ∷ 2 ∷ 7 ∷ [])
+    traceOf (2 ∷ 0 ∷ 4 ∷ 0 ∷ 2 ∷ 3 ∷ 4 ∷ 3 ∷ 1 ∷ 5 ∷ []) (0 ∷ 1 ∷ 1 ∷ 0 ∷ 0 ∷ 2 ∷ 2 ∷ 0 ∷ 0 ∷ 0 ∷ [])
+    (1 ∷ 7 ∷ 0 ∷ 7 ∷ 2 ∷ 1 ∷ 0 ∷ 2 ∷ 7 ∷ 7 ∷ [])
 
--- Location 7 is read twice and written once, by events 1 to 8. Location 2 is the operand of a fork and of a join, and nothing touches it.
+-- Location 7 is read twice, written once and added to once, by events 1 to 9. Location 2 is the operand of a fork and of a join, and nothing touches it.
 pub cards-as-expected :
-    (cardOf run 9 7 ≡ record { reads = 2; writes = 1; first = 1; last = 8 }) × (cardOf run 9 2 ≡ record { reads = 0; writes = 0; first = NOWHERE; last = NOWHERE })
+    (cardOf run 10 7 ≡ record { reads = 2; writes = 1; sums = 1; first = 1; last = 9 })
+    × (cardOf run 10 2 ≡ record { reads = 0; writes = 0; sums = 0; first = NOWHERE; last = NOWHERE })
 unfolding cardOf accesses touches orNowhere leastBelow greatestBelow countBelow traceOf isAccess
 cards-as-expected = (refl, refl)
 

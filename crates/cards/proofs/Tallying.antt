@@ -1,6 +1,6 @@
 -- The tally: what the tables hold after the first i events, by count, least and greatest position, holds after the next one too (`tallied-access`,
 -- `tallied-other`); and the card off the tables is the location's (`card-is`). Assumes nothing.
-use Prim.Native.Nat.{ℕ, zero, suc, _+_, _<_}
+use Prim.Native.Nat.{ℕ, suc, _+_, _<_}
 use native.Mathlib.Numerals.{add-one}
 use mathlib.Core.Path.{_≡_, refl, sym, ap, subst, _∙_}
 use mathlib.Core.Bool.{Bool, true, false, true≢false}
@@ -10,15 +10,16 @@ use mathlib.Core.Option.{Option, none, some}
 use native.Mathlib.Omega.{arith}
 use lib.ListN.{length, getD}
 use borrow.Author.Tests.{eq-eqb, ne-eqb}
-use Rattle.trace.specs.Trace.{Trace, traceOf, READ, WRITE, isAccess, LOCATIONS, MAX-EVENTS}
+use Rattle.trace.specs.Trace.{Trace, traceOf, READ, WRITE, SUM, isAccess, LOCATIONS}
 use Rattle.trace.specs.Orders.{orThis}
+use Rattle.trace.specs.Kinds.{indexOf}
 use Rattle.trace.specs.Search.{leastBelow, greatestBelow, countBelow}
 use Rattle.trace.proofs.Tests.{either, same-or-not}
 use Rattle.trace.proofs.Lists.{orThis-failed}
-use Rattle.trace.proofs.EventKinds.{test-access-number}
+use Rattle.trace.proofs.EventKinds.{index-few, index-apart}
 use Rattle.trace.proofs.Counts.{count-le, count-hit, count-miss}
 use Rattle.cards.specs.Cards.{accesses, touches, orNowhere, cardOf}
-use Rattle.cards.specs.Tally.{FIRST, LAST, countsOf, TALLY-CELLS, earlier, touchedIn, Touchable, cellOf, Tallied, untasked, Tallyable, positionIn, cardIn}
+use Rattle.cards.specs.Tally.{FIRST, LAST, countsOf, earlier, touchedIn, Touchable, cellOf, Tallied, untasked, Tallyable, positionIn, cardIn}
 use Rattle.cards.proofs.Touching.{touched-length, touched-other, touched-count, touched-first, touched-last}
 
 -- ---- one position more
@@ -96,8 +97,8 @@ module _ (tr : Trace) (i : ℕ) where
       abbrev d : List ℕ
       d = touchedIn c k a i
 
-      few : k < 2
-      few = test-access-number k .0 (t .access)
+      few : indexOf k < 3
+      few = index-few k (t .access)
 
       first-next : (l : ℕ) → l < LOCATIONS → getD d (FIRST + l) 0 ≡ cellOf (leastBelow (suc i) (touches tr l))
       first-next l s =
@@ -125,7 +126,7 @@ module _ (tr : Trace) (i : ℕ) where
       own-kind : (l : ℕ) → l < LOCATIONS → getD d (countsOf k + l) 0 ≡ countBelow (suc i) (accesses tr k l)
       own-kind l s =
           let small = t .location in
-          let two = few in
+          let three = few in
           either (same-or-not a l)
           (λ e.
           subst (λ (m : ℕ). getD d (countsOf k + m) 0 ≡ countBelow (suc i) (accesses tr k m)) e
@@ -137,7 +138,7 @@ module _ (tr : Trace) (i : ℕ) where
       other-kind : (kind l : ℕ) → isAccess kind ≡ true → k ≢ kind → l < LOCATIONS → getD d (countsOf kind + l) 0 ≡ countBelow (suc i) (accesses tr kind l)
       other-kind kind l access apart s =
           let small = t .location in
-          touched-other c k a i t (countsOf kind + l) (λ q. apart (omega arith)) (omega arith) (omega arith)
+          touched-other c k a i t (countsOf kind + l) (λ q. index-apart k kind (t .access) access apart (omega arith)) (omega arith) (omega arith)
           ∙ (h .counts kind l access s ∙ sym (count-miss i (accesses tr kind l) (accesses-kind kind l apart)))
 
       access-tallied : Tallied tr (suc i) entry d
@@ -152,7 +153,7 @@ module _ (tr : Trace) (i : ℕ) where
                 (λ apart. other-kind kind l access apart s);
             rest = λ j s.
                 let small = t .location in
-                let two = few in
+                let three = few in
                 touched-other c k a i t j (omega arith) (omega arith) (omega arith) ∙ h .rest j s;
           }
 
@@ -169,7 +170,7 @@ module _ (kinds operands entry : List ℕ) (ok : Tallyable kinds operands entry)
         long = refl;
         first = λ l s. ok .zeros (FIRST + l) (omega arith);
         last = λ l s. ok .zeros (LAST + l) (omega arith);
-        counts = λ kind l access s. let two = test-access-number kind .0 access in ok .zeros (countsOf kind + l) (omega arith);
+        counts = λ kind l access s. let three = index-few kind access in ok .zeros (countsOf kind + l) (omega arith);
         rest = λ j s. refl;
       }
 
@@ -211,4 +212,4 @@ unfolding cardIn cardOf traceOf accesses touches isAccess
 card-is kinds tasks operands n entry c h l s =
     let first = ap positionIn (h .first l s) ∙ position-cell (leastBelow n (touches (untasked kinds operands) l)) in
     let last = ap positionIn (h .last l s) ∙ position-cell (greatestBelow n (touches (untasked kinds operands) l)) in
-    cc (h .counts READ l refl s, h .counts WRITE l refl s, first, last)
+    cc (h .counts READ l refl s, h .counts WRITE l refl s, h .counts SUM l refl s, first, last)

@@ -1,14 +1,14 @@
 -- The cells after one access: one more in the table of its kind, the first position where there was none, and the last. Assumes nothing.
-use Prim.Native.Nat.{ℕ, suc, _+_, _<_, _≤_}
+use Prim.Native.Nat.{ℕ, _+_, _<_}
 use mathlib.Core.Path.{_≡_, ap, _∙_}
 use mathlib.Core.List.{List}
 use mathlib.Core.Logic.{_≢_}
 use native.Mathlib.Omega.{arith}
 use lib.ListN.{length, getD, set, length-set}
 use lib.Seq.{getD-set-same, getD-set-other}
-use Rattle.trace.specs.Trace.{WRITE, LOCATIONS}
-use Rattle.trace.proofs.EventKinds.{test-access-number}
-use Rattle.cards.specs.Tally.{FIRST, LAST, countsOf, TALLY-CELLS, earlier, touchedIn, Touchable}
+use Rattle.trace.specs.Kinds.{indexOf}
+use Rattle.trace.proofs.EventKinds.{index-few}
+use Rattle.cards.specs.Tally.{FIRST, LAST, countsOf, earlier, touchedIn, Touchable}
 
 module _ (c : List ℕ) (kind l at : ℕ) (t : Touchable c kind l at) where
   abbrev counted : List ℕ
@@ -32,8 +32,8 @@ module _ (c : List ℕ) (kind l at : ℕ) (t : Touchable c kind l at) where
   touched-other j n₁ n₂ n₃ =
       getD-set-other begun (LAST + l) j _ 0 n₃ ∙ (getD-set-other counted (FIRST + l) j _ 0 n₂ ∙ getD-set-other c (countsOf kind + l) j _ 0 n₁)
 
-  low : kind ≤ WRITE
-  low = let few = test-access-number kind .0 (t .access) in omega arith
+  low : indexOf kind < 3
+  low = index-few kind (t .access)
 
   pub touched-count : getD (touchedIn c kind l at) (countsOf kind + l) 0 ≡ getD c (countsOf kind + l) 0 + 1
   unfolding touchedIn

@@ -6,7 +6,7 @@ use mathlib.Core.List.{List, [], _∷_, _++_, map}
 use mathlib.Core.Option.{Option, none, some}
 use lib.Dec.{eqb, ltb}
 use lib.ListN.{length, drop}
-use Rattle.trace.specs.Trace.{Trace, traceOf, READ, WRITE, isAccess, LOCATIONS}
+use Rattle.trace.specs.Trace.{Trace, traceOf, READ, WRITE, SUM, isAccess, LOCATIONS}
 use Rattle.trace.specs.Line.{Checked, passes, fails, row}
 use Rattle.trace.specs.Search.{leastBelow, greatestBelow, countBelow}
 use Rattle.trace.specs.Orders.{positions}
@@ -33,21 +33,23 @@ unfoldable pub orNowhere : Option ℕ → ℕ
 orNowhere none = NOWHERE
 orNowhere (some p) = p
 
--- "for each location, the number of reads, the number of writes, and the first and last position that touched it": of the first n events.
+-- "for each location, the number of reads, the number of writes, and the first and last position that touched it": of the first n events. "Cards of K1 gain a
+-- count of sums" (K3).
 unfoldable pub cardOf : Trace → ℕ → ℕ → Card
 cardOf tr n l =
     record {
       reads = countBelow n (accesses tr READ l);
       writes = countBelow n (accesses tr WRITE l);
+      sums = countBelow n (accesses tr SUM l);
       first = orNowhere (leastBelow n (touches tr l));
       last = orNowhere (greatestBelow n (touches tr l));
     }
 
 -- ---- the lent records
 
--- A record in memory: these four numbers of 16 bits, one behind the other, as `include/racejudge.h` has them.
+-- A record in memory: these five numbers of 16 bits, one behind the other, as `include/racejudge.h` has them.
 abbrev pub laidOut : Card → List ℕ
-laidOut c = c .reads ∷ c .writes ∷ c .first ∷ c .last ∷ []
+laidOut c = c .reads ∷ c .writes ∷ c .sums ∷ c .first ∷ c .last ∷ []
 
 -- The first k records are these cards, and those past them are as they were. It stays shut: at a numeral it is computed card by card.
 unfoldable pub withCards : (ℕ → Card) → ℕ → List Card → List Card

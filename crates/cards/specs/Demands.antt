@@ -6,7 +6,7 @@ use mathlib.Core.Bool.{true, false}
 use mathlib.Core.List.{List}
 use mathlib.Core.Logic.{_≢_}
 use lib.ListN.{length, getD}
-use Rattle.trace.specs.Trace.{Trace, traceOf, READ, WRITE, LOCATIONS}
+use Rattle.trace.specs.Trace.{Trace, traceOf, READ, WRITE, SUM, LOCATIONS}
 use Rattle.trace.specs.Line.{passes}
 use Rattle.trace.specs.Search.{countBelow}
 use Rattle.trace.specs.Outcome.{Reply, says, refused, Verdict, clean, sizes, orderRoom}
@@ -18,9 +18,10 @@ use Rattle.cards.specs.Cards.{accesses, touches, NOWHERE, cardSizes}
 
 -- What the card c says of location l, of the first n events of a trace.
 pub record CardSays (tr : Trace) (n l : ℕ) (c : Card) : Type 0 where
-  -- "the number of reads, the number of writes,"
+  -- "the number of reads, the number of writes", the number of sums (K3),
   pub reads : c .reads ≡ countBelow n (accesses tr READ l)
   pub writes : c .writes ≡ countBelow n (accesses tr WRITE l)
+  pub sums : c .sums ≡ countBelow n (accesses tr SUM l)
   -- "and the first and last position that touched it": both did, and whatever did lies between them;
   pub first-touches : (p : ℕ) → p < n → touches tr l p ≡ true → (c .first ≤ p) × (touches tr l (c .first) ≡ true)
   pub last-touches : (p : ℕ) → p < n → touches tr l p ≡ true → (p ≤ c .last) × (c .last < n) × (touches tr l (c .last) ≡ true)
@@ -29,7 +30,7 @@ pub record CardSays (tr : Trace) (n l : ℕ) (c : Card) : Type 0 where
 
 -- Any card: what is read past the end of a list is never asked for.
 abbrev pub blank : Card
-blank = record { reads = 0; writes = 0; first = 0; last = 0 }
+blank = record { reads = 0; writes = 0; sums = 0; first = 0; last = 0 }
 
 -- K1: of the answer about the first n events, and of the records before and after.
 pub record CardsHeld (tr : Trace) (n : ℕ) (answer : Reply Verdict) (cards cards′ : List Card) : Type 0 where

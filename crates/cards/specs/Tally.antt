@@ -6,7 +6,8 @@ use mathlib.Core.List.{List, []}
 use mathlib.Core.Option.{Option, none, some}
 use lib.Dec.{eqb}
 use lib.ListN.{length, getD, set}
-use Rattle.trace.specs.Trace.{Trace, traceOf, READ, WRITE, isAccess, LOCATIONS, MAX-EVENTS}
+use Rattle.trace.specs.Trace.{Trace, traceOf, READ, WRITE, SUM, isAccess, LOCATIONS, MAX-EVENTS}
+use Rattle.trace.specs.Kinds.{indexOf}
 use Rattle.trace.specs.Search.{leastBelow, greatestBelow, countBelow}
 use Rattle.trace.specs.Outcome.{Reply, says, refused, Verdict, clean, race, Outcome}
 use Rattle.cells.specs.Cells.{zeroed}
@@ -29,11 +30,11 @@ abbrev pub COUNTS : ℕ
 COUNTS = 2048
 
 abbrev pub countsOf : ℕ → ℕ
-countsOf kind = COUNTS + LOCATIONS * kind
+countsOf kind = COUNTS + LOCATIONS * indexOf kind
 
 -- The cells of all tables.
 abbrev pub TALLY-CELLS : ℕ
-TALLY-CELLS = 4096
+TALLY-CELLS = 5120
 
 -- ---- one access
 
@@ -115,6 +116,7 @@ cardIn c l =
     record {
       reads = getD c (countsOf READ + l) 0;
       writes = getD c (countsOf WRITE + l) 0;
+      sums = getD c (countsOf SUM + l) 0;
       first = positionIn (getD c (FIRST + l) 0);
       last = positionIn (getD c (LAST + l) 0);
     }

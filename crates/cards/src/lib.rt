@@ -1,4 +1,4 @@
-// A card for each location, after a clean verdict: how often it was read and written, and by which events first and last. The judge clears its workspace, so the
+// A card for each location, after a clean verdict: how often it was read, written and added to, and by which events first and last. The judge clears its workspace, so the
 // cards are counted in its tables by a second pass; a pass during the judgement would not do, since every other answer leaves the lent records as they were.
 // A function that takes the records themselves is walked by hand (`capi`). So all branches are here, where the number of records stands for them.
 ghost use mathlib.Core.Path.{_≡_};
@@ -19,6 +19,7 @@ ghost use Rattle.cards.specs.Tally.{positionIn, cardIn, dueAfter, Tables
 pub struct Card {
     pub reads: u16,
     pub writes: u16,
+    pub sums: u16,
     pub first: u16,
     pub last: u16,
 }
@@ -35,8 +36,10 @@ const READS: usize = 2048;
 
 const WRITES: usize = 3072;
 
+const SUMS: usize = 4096;
+
 // The cells of all tables.
-const TALLY_CELLS: usize = 4096;
+const TALLY_CELLS: usize = 5120;
 
 // "65,535 for both where none did"
 const NOWHERE: u16 = 65535;
@@ -51,7 +54,7 @@ fn counts_of(kind: u8) -> usize
     requires { ⌜ isAccess kind ≡ true ⌝ }
     ensures { λ r. ⌜ (r ≡ countsOf kind) × (r + LOCATIONS ≤ TALLY-CELLS) ⌝ }
 {
-    READS + LOCATIONS * kind as usize
+    READS + LOCATIONS * trace::index_of(kind)
 }
 
 // The cell of the first position after an access at `at`.
@@ -158,6 +161,7 @@ pub fn card_of(ws: &[u16], l: usize) -> Card
     Card {
         reads: ws[READS + l],
         writes: ws[WRITES + l],
+        sums: ws[SUMS + l],
         first: position_in(ws[FIRST + l]),
         last: position_in(ws[LAST + l]),
     }

@@ -91,6 +91,7 @@ module _ {kinds tasks operands entry ordered : List ℕ} {events number : ℕ} (
           let ready = ranked .segments-in in
           record {
             within = ready .within;
+            named = ready .named;
             few = ready .few;
             room = omega (arith, ready .room, after .long);
             zero = after .same (NEXT + 0) (omega arith) ∙ ready .zero;

@@ -1,9 +1,10 @@
 // The rules over the line of tasks: the two stacks that the line is, in the cells of one lent workspace, and one event's rows.
 // The definitions in `specs/` say what each function leaves in the cells; the laws in `proofs/` tie these cells to the run of a trace.
 ghost use mathlib.Core.Path.{_≡_};
+ghost use mathlib.Core.Bool.{true};
 ghost use Prim.Native.Nat.{_+_, _-_, _≤_, _<_};
 ghost use lib.ListN.{length};
-ghost use Rattle.trace.specs.Trace.{TASKS, WORKSPACE-CELLS};
+ghost use Rattle.trace.specs.Trace.{isKind, TASKS, WORKSPACE-CELLS};
 ghost use Rattle.line.specs.Rules.{Fork, Join, Halt, ruleOf};
 ghost use Rattle.line.specs.Cells.{depths, runningIn, nearestIn, startedIn, forkedIn, haltedIn};
 ghost use Rattle.line.specs.Steps.{afterIn, Movable, rowed, locationRow, forkIn, joinIn, haltIn, actIn, eventIn};
@@ -11,6 +12,7 @@ ghost use Rattle.line.specs.Held.{Sound};
 use trace::FORK;
 use trace::HALT;
 use trace::JOIN;
+use trace::SUM;
 
 // 1 where the task's number has been used: the one table that is read before it is written.
 const USED: usize = 0;
@@ -139,19 +141,20 @@ fn halt_row(ws: &mut [u16], line: Line, operand: u16) -> usize
     0
 }
 
-// "Kinds are 0 read, 1 write, 2 fork, 3 join, 4 halt": the one row for the event's kind. The match calls the rule's function itself: by way of
-// a value for the rule, which is matched again, it compiles to a jump table, and random traces take a seventh longer.
+// The one row for the event's kind: 2 is a fork, 3 a join, 4 a halt, and what else the documents name is an access. The match names the moves alone and calls
+// the rule's function itself: with the accesses named too, whose numbers do not stand together, or by way of a value for the rule, which is matched again, it
+// compiles to a jump table, and random traces take a seventh longer.
 fn act(ws: &mut [u16], line: Line, kind: u8, operand: u16) -> usize
     requires { ⌜ Sound (now ws) line ⌝ }
     requires { ⌜ 0 < line .active ⌝ }
+    requires { ⌜ isKind kind ≡ true ⌝ }
     ensures { λ r. ⌜ rowed (afterIn line (ruleOf kind)) r (now (ws .exit)) ≡ actIn (now (ws .entry)) line (ruleOf kind) operand ⌝ }
 {
     match kind {
-        0 | 1 => location_row(operand),
         2 => fork_row(ws, line, operand),
         3 => join_row(ws, line, operand),
         4 => halt_row(ws, line, operand),
-        5..=255 => 5,
+        _ => location_row(operand),
     }
 }
 
@@ -160,7 +163,7 @@ pub fn event(ws: &mut [u16], line: Line, kind: u8, task: u16, operand: u16) -> u
     requires { ⌜ Sound (now ws) line ⌝ }
     ensures { λ r. ⌜ rowed (afterIn line (ruleOf kind)) r (now (ws .exit)) ≡ eventIn (now (ws .entry)) line kind task operand ⌝ }
 {
-    if HALT < kind {
+    if SUM < kind {
         return 5;
     }
     if line.active == 0 {

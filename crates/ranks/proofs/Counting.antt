@@ -57,6 +57,7 @@ pub segments-less : {kinds : List ℕ} {events : ℕ} {c : List ℕ} (n : ℕ) �
 segments-less {kinds} {events} n h s =
     record {
       within = omega (arith, s .within);
+      named = λ p l. s .named p (omega arith);
       few = omega (arith, s .few, moves-rise (kindsOnly kinds) n events h);
       room = s .room;
       zero = s .zero;

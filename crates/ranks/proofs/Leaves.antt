@@ -1,15 +1,22 @@
 -- Laws of the leaves' cases, premises spelt as the code's tests and its callees' contracts are. Assumes nothing.
-use Prim.Native.Nat.{ℕ, suc, _+_}
+use Prim.Native.Nat.{ℕ, suc, _+_, _≤_}
 use mathlib.Core.Path.{_≡_}
-use mathlib.Core.Bool.{Bool, true, false, cond}
-use native.Mathlib.Numerals.{add-one}
+use mathlib.Core.Bool.{Bool, true, false, cond, not}
+use native.Mathlib.Omega.{arith}
+use mir.Val.{boolByte}
 use Rattle.trace.specs.Trace.{isAccess}
 
-pub next-access : (kind g : ℕ) (b : Bool) → b ≡ isAccess kind → b ≡ true → g ≡ cond (isAccess kind) g (suc g)
-next-access kind g b e f = rw (← e, f)
+pub bit-few : (b : Bool) → boolByte b ≤ 1
+bit-few true = omega arith
+bit-few false = omega arith
 
-pub next-move : (kind g : ℕ) (b : Bool) → b ≡ isAccess kind → b ≡ false → g + 1 ≡ cond (isAccess kind) g (suc g)
-next-move kind g b e f = rw (← e, f) (add-one g)
+-- One segment more behind a move.
+pub next-open : (kind g : ℕ) (b : Bool) → b ≡ not (isAccess kind) → g + boolByte b ≡ cond (isAccess kind) g (suc g)
+next-open kind g b e = rw e (by-case (isAccess kind))
+  where
+    by-case : (b : Bool) → g + boolByte (not b) ≡ cond b g (suc g)
+    by-case true = omega arith
+    by-case false = omega arith
 
 -- The cases of a test.
 pub case-met : {A : Type 0} (b : Bool) (x y z : A) → b ≡ true → x ≡ y → x ≡ cond b y z

@@ -10,11 +10,11 @@ use lib.Dec.{eqb}
 use lib.ListN.{length, getD, set, length-set}
 use lib.Seq.{getD-set-other}
 use borrow.Author.Tests.{eqb-true, not-false}
-use Rattle.trace.specs.Trace.{Trace, traceOf, FORK, JOIN, HALT, isAccess, TASKS, WORKSPACE-CELLS}
+use Rattle.trace.specs.Trace.{Trace, traceOf, FORK, JOIN, HALT, isKind, isAccess, TASKS, WORKSPACE-CELLS}
 use Rattle.trace.specs.Line.{passes, haltOperand, lineAfter}
 use Rattle.trace.proofs.Tests.{by-test, either}
 use Rattle.trace.proofs.EventKinds.{rest-is-halt}
-use Rattle.trace.proofs.Lines.{line-more, graph-all, graph-broken}
+use Rattle.trace.proofs.Lines.{line-more, named, graph-all, graph-broken}
 use Rattle.trace.proofs.TwoStacks.{line-of}
 use Rattle.cells.specs.Cells.{SameBeyond, numberIn}
 use Rattle.cells.proofs.Rests.{rest-refl, rest-eq, rest-trans, rest-set}
@@ -128,6 +128,9 @@ module _ (tr : Trace) (n : ℕ) (c : List ℕ) (line : Line) (g : ℕ) (t : List
     can-move : Movable line (tr .kind n)
     can-move = event-movable (t .at) next row d e none
 
+    pub list-named : isKind (tr .kind n) ≡ true
+    list-named = event-kind (t .at) next row d e none
+
     -- It is an access: nothing else is stored.
     pub list-access : isAccess (tr .kind n) ≡ true → TakeSays tr n c d line g 0
     list-access a =
@@ -182,7 +185,7 @@ module _ (tr : Trace) (n : ℕ) (c : List ℕ) (line : Line) (g : ℕ) (t : List
           opened-as d line k g _ _ _ _ _ _ (ap (λ (z : ℕ). top z halts) now ∙ sym (source-join tr n is)) (sym (o .forks-are)) (sym (o .halts-are))
           (open-join d line k g forks halts room of-forks of-halts active left few-active few-left is (can-move .joins is)))
           (λ j.
-          let is = rest-is-halt k (event-kind (t .at) next row d e none) a f j in
+          let is = rest-is-halt k list-named a f j in
           let o = opens-halt tr n is in
           opened-as d line k g _ _ _ _ _ _ (ap (λ (z : ℕ). top z forks) now ∙ sym (source-halt tr n is)) (sym (o .forks-are))
           (ap (λ (z : ℕ). z ∷ halts) now ∙ sym (o .halts-are))
@@ -258,18 +261,22 @@ module _ (kinds tasks operands : List ℕ) {n : ℕ} {c : List ℕ} {line : Line
   unfolding traceOf
   take-broken some = list-broken (traceOf kinds tasks operands) n c line g t row d e some
 
-  module _ (none : row ≡ 0) (b : Bool) (is : b ≡ isAccess (getD kinds n 0)) where
-    pub take-access : not b ≡ false → TakeSays (traceOf kinds tasks operands) n c d line g 0
-    unfolding traceOf
-    take-access a = list-access (traceOf kinds tasks operands) n c line g t row d e none (sym is ∙ not-false b a)
+  pub take-named : row ≡ 0 → isKind (getD kinds n 0) ≡ true
+  unfolding traceOf
+  take-named none = list-named (traceOf kinds tasks operands) n c line g t row d e none
 
-    pub take-openable : not b ≡ true → Openable d line (getD kinds n 0) g
+  module _ (none : row ≡ 0) (b : Bool) (is : b ≡ not (isAccess (getD kinds n 0))) where
+    pub take-access : b ≡ false → TakeSays (traceOf kinds tasks operands) n c d line g 0
     unfolding traceOf
-    take-openable a = list-openable (traceOf kinds tasks operands) n c line g t row d e none (sym is ∙ not-true b a)
+    take-access a = list-access (traceOf kinds tasks operands) n c line g t row d e none (not-false _ (sym is ∙ a))
 
-    pub take-move : not b ≡ true → (x : List ℕ) → x ≡ openedIn d line (getD kinds n 0) g → TakeSays (traceOf kinds tasks operands) n c x line g 0
+    pub take-openable : b ≡ true → Openable d line (getD kinds n 0) g
     unfolding traceOf
-    take-move a = list-move (traceOf kinds tasks operands) n c line g t row d e none (sym is ∙ not-true b a)
+    take-openable a = list-openable (traceOf kinds tasks operands) n c line g t row d e none (not-true _ (sym is ∙ a))
+
+    pub take-move : b ≡ true → (x : List ℕ) → x ≡ openedIn d line (getD kinds n 0) g → TakeSays (traceOf kinds tasks operands) n c x line g 0
+    unfolding traceOf
+    take-move a = list-move (traceOf kinds tasks operands) n c line g t row d e none (not-true _ (sym is ∙ a))
 
 -- ---- the start
 
@@ -378,6 +385,10 @@ module _ (kinds tasks operands : List ℕ) {c exit : List ℕ} {line : Line} {g 
   pub taken-movable : Movable line (getD kinds i 0)
   unfolding traceOf
   taken-movable = says .kept none .0
+
+  pub taken-named : isKind (getD kinds i 0) ≡ true
+  unfolding traceOf
+  taken-named = named haltOperand (traceOf kinds tasks operands) (suc i) _ (line-of haltOperand _ (says .kept none .1 .at .run)) i (omega arith)
 
   pub taken-turn : {n k count : ℕ} {before entry : List ℕ} → SameBeyond before entry → StopsIn (traceOf kinds tasks operands) n before count →
       Listing (traceOf kinds tasks operands) n entry c line g k → AtStop (traceOf kinds tasks operands) n c line g k i → (line′ : Line) (g′ : ℕ) →

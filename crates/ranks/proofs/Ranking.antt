@@ -15,7 +15,7 @@ use Rattle.segments.specs.Segments.{moves, segment, segments, rank}
 use Rattle.trace.proofs.Tests.{either, lt-or-le}
 use Rattle.trace.proofs.EventKinds.{access-not-join}
 use Rattle.trace.proofs.Lists.{oneIf-same}
-use Rattle.trace.proofs.Lines.{graph-kept}
+use Rattle.trace.proofs.Lines.{graph-kept, named}
 use Rattle.trace.proofs.OrderFacts.{order-at-most-once, order-length, order-inside}
 use Rattle.segments.proofs.SegmentFacts.{segment-old, segments-order, zero-first, place-zero}
 use Rattle.segments.proofs.SegmentCount.{segments-few}
@@ -28,7 +28,7 @@ use Rattle.cells.specs.Cells.{Rest, SameBeyond}
 use Rattle.stops.specs.Stops.{Collected, StopsIn}
 use Rattle.stops.proofs.Standing.{stops-still}
 use Rattle.ranks.specs.Lists.{NEXT, SEGMENTS, Listed}
-use Rattle.ranks.specs.States.{Leading, ListSays, kindsOnly, ownNumber, RankSays}
+use Rattle.ranks.specs.States.{Leading, ListSays, Named, kindsOnly, ownNumber, RankSays}
 
 -- ---- the segments ask for the kinds alone
 
@@ -166,6 +166,12 @@ module _ (kinds tasks operands : List ℕ) {n events : ℕ} {entry b c d : List 
   long : length d ≡ length entry
   long = walked-rest .long ∙ (says .beyond .long ∙ collected .long)
 
+  named-kinds : Named kinds events
+  unfolding traceOf
+  named-kinds p h =
+      let kept = graph-kept haltOperand tr n in
+      named haltOperand tr (graphEvents haltOperand tr n) (kept .0) (kept .1) p (omega (arith, says .rules .graph))
+
   -- Each segment's number tells its events' paths.
   pub ranked : RankSays kinds tr n entry d events row
   ranked =
@@ -184,6 +190,7 @@ module _ (kinds tasks operands : List ℕ) {n events : ℕ} {entry b c d : List 
         segments-in =
             record {
               within = omega (arith, all, events-within says);
+              named = named-kinds;
               few = rw (← moves-kinds kinds tasks operands events) (moves-few says);
               room = omega (arith, room, long);
               zero = ap (λ (w : List ℕ). getD w (NEXT + 0) 0) walk ∙ number-zero says room-c;

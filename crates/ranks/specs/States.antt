@@ -6,7 +6,7 @@ use mathlib.Core.Bool.{true, cond}
 use mathlib.Core.List.{List, []}
 use mathlib.Core.Logic.{_≢_}
 use lib.ListN.{length, getD}
-use Rattle.trace.specs.Trace.{Trace, traceOf, isAccess, WORKSPACE-CELLS}
+use Rattle.trace.specs.Trace.{Trace, traceOf, isKind, isAccess, WORKSPACE-CELLS}
 use Rattle.trace.specs.Line.{haltOperand}
 use Rattle.trace.specs.Graph.{graphEvents}
 use Rattle.trace.specs.Demands.{KeepsRules, BreaksFirst}
@@ -79,9 +79,14 @@ ownNumber kinds c p = getD c (NEXT + segment (kindsOnly kinds) p) 0
 abbrev pub Spread : List ℕ → ℕ → List ℕ → List ℕ → Type 0
 Spread kinds events entry exit = Filled NUMBER events (ownNumber kinds entry) entry exit
 
--- The cells can hold the numbers of the segments of the first `events` events; that of the first one is 0.
+-- The first n events are of kinds that the documents name.
+abbrev pub Named : List ℕ → ℕ → Type 0
+Named kinds n = (p : ℕ) → p < n → isKind (getD kinds p 0) ≡ true
+
+-- The cells can hold the numbers of the segments of the first `events` events, which keep the rules; that of the first one is 0.
 pub record SegmentsIn (kinds : List ℕ) (events : ℕ) (c : List ℕ) : Type 0 where
   pub within : events ≤ length kinds
+  pub named : Named kinds events
   pub few : moves (kindsOnly kinds) events < SEGMENTS
   pub room : WORKSPACE-CELLS ≤ length c
   pub zero : getD c (NEXT + 0) 0 ≡ 0

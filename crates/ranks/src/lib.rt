@@ -1,10 +1,10 @@
 // The line rules over a whole trace, and for each event that keeps them a number: of two events the earlier reaches the later exactly if its number is no
 // larger. The numbers are the places of the segments in their second order (crate `segments`), which is kept as a linked list while the rules run.
 ghost use mathlib.Core.Path.{_≡_};
-ghost use mathlib.Core.Bool.{cond};
+ghost use mathlib.Core.Bool.{true, cond};
 ghost use Prim.Native.Nat.{_+_, _≤_, _<_, suc};
 ghost use lib.ListN.{length, getD};
-ghost use Rattle.trace.specs.Trace.{isAccess, WORKSPACE-CELLS};
+ghost use Rattle.trace.specs.Trace.{isKind, isAccess, WORKSPACE-CELLS};
 ghost use Rattle.trace.specs.Lent.{lentTrace};
 ghost use Rattle.trace.proofs.Sizes.{Sized};
 ghost use Rattle.segments.specs.Segments.{moves};
@@ -14,7 +14,7 @@ ghost use Rattle.line.specs.declared.Line.{Line};
 ghost use Rattle.ranks.specs.Lists.{NEXT, SEGMENTS, sourceIn, ownIn, Readable, pushedIn, openedIn, Openable, Listed};
 ghost use Rattle.stops.specs.Stops.{StopsIn};
 ghost use Rattle.ranks.specs.States.{SomeStops, Leading, Begun, ListAt, TakeSays, ListSays};
-ghost use Rattle.ranks.specs.States.{kindsOnly, ownNumber, Spread, SegmentsIn, RankSays};
+ghost use Rattle.ranks.specs.States.{Named, kindsOnly, ownNumber, Spread, SegmentsIn, RankSays};
 use line::Line;
 use trace::FORK;
 use trace::HALT;
@@ -97,15 +97,12 @@ fn open_next(ws: &mut [u16], line: Line, kind: u8, current: u16)
     link(ws, m, current + 1);
 }
 
-// The open segment after an event of this kind.
+// The open segment after an event of this kind. It is computed, since no processor can predict where the moves are.
 fn open_after(kind: u8, current: u16) -> u16
-    requires { ⌜ current < SEGMENTS ⌝ }
+    requires { ⌜ (current < SEGMENTS) × (isKind kind ≡ true) ⌝ }
     ensures { λ r. ⌜ r ≡ cond (isAccess kind) current (suc current) ⌝ }
 {
-    if trace::is_access(kind) {
-        return current;
-    }
-    current + 1
+    current + trace::is_move(kind) as u16
 }
 
 // The segment of an event of this kind.
@@ -149,7 +146,7 @@ fn take(
     if row != 0 {
         return row;
     }
-    if !trace::is_access(kind) {
+    if trace::is_move(kind) {
         open_next(ws, line, kind, current);
     }
     0
@@ -205,7 +202,7 @@ fn number(ws: &mut [u16])
 
 // The segment that is open before event p: as many moves as come before it. The loop only counts, so that the compiler takes many events at a time.
 fn open_before(kinds: &[u8], p: usize) -> u16
-    requires { ⌜ (p ≤ length (now kinds)) × (moves (kindsOnly (now kinds)) p < SEGMENTS) ⌝ }
+    requires { ⌜ (p ≤ length (now kinds)) × Named (now kinds) p × (moves (kindsOnly (now kinds)) p < SEGMENTS) ⌝ }
     ensures { λ r. ⌜ r ≡ moves (kindsOnly (now (kinds .entry))) p ⌝ }
 {
     let mut current: u16 = 0;

@@ -1,40 +1,26 @@
 -- The search for the partner: what the code's test of one event says. Assumes nothing.
-use Prim.Native.Nat.{ℕ, _+_}
-use mathlib.Core.Path.{_≡_, sym, _∙_}
+use Prim.Native.Nat.{ℕ}
+use mathlib.Core.Path.{_≡_}
 use mathlib.Core.Bool.{Bool, true, false, not}
 use mathlib.Core.List.{List}
-use mathlib.Core.Logic.{inl, inr, _≢_}
-use native.Mathlib.Omega.{arith}
-use lib.Dec.{eqb}
+use mathlib.Core.Logic.{_≢_}
 use lib.ListN.{getD}
 use borrow.Author.Tests.{eq-eqb, ne-eqb, not-true, not-false}
 use Rattle.trace.specs.Trace.{isAccess}
-use Rattle.trace.proofs.Tests.{either, tests-map, tests-unique, test-eq, test-not}
-use Rattle.trace.proofs.Conflicts.{test-access, test-conflicting}
+use Rattle.trace.specs.Race.{conflicting}
 use Rattle.report.specs.Reports.{reachIn, kindsConflict, partnerIn}
 
 -- ---- which kinds conflict
 
--- This part alone rests on which kinds are accesses and which of them conflict.
 module _ (j k : ℕ) (access : Bool) (told : access ≡ isAccess j) where
   -- The tests of the code, in their order.
   pub no-access : not access ≡ true → false ≡ kindsConflict j k
   unfolding kindsConflict
   no-access e = rw (← told, not-true access e)
 
-  pub one-writes : not access ≡ false → isAccess k ≡ true → not (eqb (j + k) 0) ≡ kindsConflict j k
+  pub by-kinds : not access ≡ false → (conflict : Bool) → conflict ≡ conflicting j k → conflict ≡ kindsConflict j k
   unfolding kindsConflict
-  one-writes passed other =
-      let is = sym told ∙ not-false access passed in
-      rw is
-      (tests-unique _ _
-      (tests-map
-      (λ some.
-      either (test-access j .0 is) (λ r. either (test-access k .0 other) (λ r′. absurd (some (omega arith))) (λ w. inr w))
-      (λ w. inl w))
-      (λ f e. either f (λ w. omega arith) (λ w. omega arith))
-      (test-not _ (test-eq (j + k) 0)))
-      (test-conflicting j k))
+  by-kinds passed conflict read = rw (← told, not-false access passed) read
 
 -- ---- the test of one event, in the order of the code
 

@@ -10,7 +10,7 @@ ghost use Rattle.cells.specs.Cells.{NUMBER};
 ghost use Rattle.report.specs.Reports.{reachIn, kindsConflict, partnerIn, Partnered, FirstPartner};
 ghost use Rattle.report.specs.Reports.{notReachIn, chosen, ofD, others, orderIn, Parted, Arranged, ReportedIn};
 
-// Whether an event of this kind conflicts with an access to its location, of kind `other`: "at least one is a write".
+// Whether an event of this kind is an access and conflicts with one of the kind `other`, where both have one location.
 fn conflicts(kind: u8, other: u8) -> bool
     requires { ⌜ isAccess other ≡ true ⌝ }
     ensures { λ r. ⌜ r ≡ kindsConflict kind other ⌝ }
@@ -18,7 +18,7 @@ fn conflicts(kind: u8, other: u8) -> bool
     if !trace::is_access(kind) {
         return false;
     }
-    kind + other != 0
+    trace::is_conflict(kind, other)
 }
 
 // Whether event p, by its number, reaches the later event e.

@@ -1,61 +1,211 @@
--- The tables hold the largest numbers: what one event changes in them, and that one cell tells whether an access races. Assumes nothing.
+-- The tables hold the largest numbers: what one event changes in them, and that they tell whether an access races. Assumes nothing.
 use Prim.Native.Nat.{ℕ, suc, max, _+_, _<_, _≤_}
-use mathlib.Core.Path.{_≡_, refl, sym, _∙_}
-use mathlib.Core.Bool.{true, false, true≢false}
+use mathlib.Core.Path.{_≡_, refl, sym, ap, _∙_}
+use mathlib.Core.Bool.{Bool, true, false, true≢false}
 use mathlib.Core.List.{List}
 use mathlib.Core.Logic.{_⊎_, inl, inr, _≢_, _↔_}
 use native.Mathlib.Omega.{arith}
 use lib.ListN.{length, getD, set, length-set}
 use lib.Seq.{getD-set-same, getD-set-other}
-use Rattle.trace.specs.Trace.{WRITE, FORK, isAccess, LOCATIONS}
+use borrow.Author.Tests.{ne-eqb}
+use Rattle.trace.specs.Trace.{READ, WRITE, SUM, isAccess, LOCATIONS}
 use Rattle.trace.specs.Race.{conflicting}
-use Rattle.trace.proofs.Tests.{by-test, either, same-or-not, lt-or-le, last-or-below, tests-fails}
-use Rattle.trace.proofs.EventKinds.{test-access-number}
+use Rattle.trace.proofs.Tests.{by-test, either, same-or-not, lt-or-le, last-or-below}
+use Rattle.trace.proofs.EventKinds.{test-access}
 use Rattle.trace.proofs.Conflicts.{test-conflicting}
 use Rattle.scan.specs.Numbered.{Against, RaceByNumber}
-use Rattle.scan.specs.Tables.{TOUCHED, TABLES, tableOf, alsoKept, heldAgainst, largestIn, keptIn}
+use Rattle.scan.specs.Tables.{FOR-READS, FOR-SUMS, TABLES, tableOf, alsoKept, heldAgainst, Testable, Calm, raised, keptIn, TestSays}
 
--- ---- the cells of an access that is kept
+-- ---- what the functions return and leave
 
-module _ (c : List ℕ) (j o x : ℕ) where
-  pub kept-long : length (keptIn c j o x) ≡ length c
+-- A read or a write,
+module _ (c : List ℕ) (k l x : ℕ) (ready : Testable c k l × (k ≢ SUM)) where
+  -- the table that it is held against beside FOR-READS,
+  table-is : (b table : ℕ) → table ≡ tableOf k → b ≡ getD c (table + l) 0 → b ≡ getD c (tableOf k + l) 0
+  table-is b table is read = read ∙ ap (λ (z : ℕ). getD c (z + l) 0) is
+
+  held-is : heldAgainst c k l ≡ max (getD c (FOR-READS + l) 0) (getD c (tableOf k + l) 0)
+  unfolding heldAgainst
+  held-is = rw (ne-eqb k SUM (ready .1))
+
+  -- which is not the smaller one where there was no sum.
+  calm-table : getD c (FOR-READS + l) 0 ≤ getD c (FOR-SUMS + l) 0 → getD c (FOR-READS + l) 0 ≤ getD c (tableOf k + l) 0
+  calm-table calm =
+      either (test-access k .0 (ready .0 .access)) (λ e. rw e (omega arith))
+      (λ b. either b (λ e. rw e calm) (λ e. absurd (ready .1 e)))
+
+  pub held-back : (a : ℕ) → x < a → a ≡ getD c (FOR-READS + l) 0 → TestSays c c k l x false
+  held-back a low read = (omega (arith, held-is), refl)
+
+  pub held-back-too : (b table : ℕ) → x < b → table ≡ tableOf k → b ≡ getD c (table + l) 0 → TestSays c c k l x false
+  held-back-too b table low is read = (omega (arith, held-is, table-is b table is read), refl)
+
+  pub passed :
+      (b table : ℕ) (sums : Bool) (d : List ℕ) → Calm c sums → (sums ≡ false) ⊎ (getD c (FOR-READS + l) 0 ≤ x) → b ≤ x → table ≡ tableOf k
+      → b ≡ getD c (table + l) 0 → d ≡ keptIn c k l x → TestSays c d k l x true
+  passed b table sums d calm held high is read kept =
+      let cell = table-is b table is read in (
+        either held (λ none. omega (arith, held-is, calm-table (calm none l (ready .0 .location)))) (λ low. omega (arith, held-is)),
+        kept,
+      )
+
+  pub kept-plain :
+      (a m table : ℕ) (b d : List ℕ) → a ≡ getD c (FOR-SUMS + l) 0 → m ≡ max a x → b ≡ set c (FOR-SUMS + l) m → table ≡ alsoKept k
+      → d ≡ set b (table + l) m → d ≡ keptIn c k l x
   unfolding keptIn
-  kept-long = simp length-set
+  kept-plain a m table b d read larger first is second = rw (ne-eqb k SUM (ready .1)) (cc (read, larger, first, is, second))
 
-  abbrev once : List ℕ
-  once = set c (TOUCHED + o) (largestIn c o x)
+-- and a sum.
+module _ (c : List ℕ) (l x : ℕ) where
+  pub sum-held-back : (a : ℕ) → x < a → a ≡ getD c (FOR-SUMS + l) 0 → TestSays c c SUM l x false
+  unfolding heldAgainst
+  sum-held-back a low read = (omega arith, refl)
 
-  pub kept-other : (i : ℕ) → i ≢ TOUCHED + o → i ≢ alsoKept j + o → getD (keptIn c j o x) i 0 ≡ getD c i 0
+  pub sum-passed :
+      (a b m : ℕ) (d : List ℕ) → a ≤ x → a ≡ getD c (FOR-SUMS + l) 0 → b ≡ getD c (FOR-READS + l) 0 → m ≡ max b x → d ≡ set c (FOR-READS + l) m
+      → TestSays c d SUM l x true
+  unfolding heldAgainst keptIn
+  sum-passed a b m d high read read′ larger stored = (omega arith, cc (read′, larger, stored))
+
+-- ---- what an access is held against, kind by kind
+
+held-read : (c : List ℕ) (l : ℕ) → heldAgainst c READ l ≡ getD c (FOR-READS + l) 0
+unfolding heldAgainst
+held-read c l = omega arith
+
+held-write : (c : List ℕ) (l : ℕ) → heldAgainst c WRITE l ≡ max (getD c (FOR-READS + l) 0) (getD c (FOR-SUMS + l) 0)
+unfolding heldAgainst
+held-write c l = refl
+
+held-sum : (c : List ℕ) (l : ℕ) → heldAgainst c SUM l ≡ getD c (FOR-SUMS + l) 0
+unfolding heldAgainst
+held-sum c l = refl
+
+-- ---- the cells of an access that is kept, kind by kind
+
+module _ (c : List ℕ) (o x : ℕ) where
+  kept-read : keptIn c READ o x ≡ set (set c (FOR-SUMS + o) (raised c FOR-SUMS o x)) (FOR-SUMS + o) (raised c FOR-SUMS o x)
   unfolding keptIn
-  kept-other i d e =
-      getD-set-other once (alsoKept j + o) i (largestIn c o x) 0 e ∙ getD-set-other c (TOUCHED + o) i (largestIn c o x) 0 d
+  kept-read = refl
 
-  kept-at : TABLES ≤ length c → o < LOCATIONS → (i : ℕ) → (i ≡ TOUCHED + o) ⊎ (i ≡ alsoKept j + o) → getD (keptIn c j o x) i 0 ≡ largestIn c o x
+  kept-write : keptIn c WRITE o x ≡ set (set c (FOR-SUMS + o) (raised c FOR-SUMS o x)) (FOR-READS + o) (raised c FOR-SUMS o x)
   unfolding keptIn
-  kept-at room location i e =
-      let long = length-set c (TOUCHED + o) (largestIn c o x) in
-      either (same-or-not i (alsoKept j + o))
-      (λ q. rw q (getD-set-same once (alsoKept j + o) (largestIn c o x) 0 (omega arith)))
-      (λ d.
-      let f : i ≡ TOUCHED + o = either e (λ q. q) (λ q. absurd (d q)) in
-      getD-set-other once (alsoKept j + o) i (largestIn c o x) 0 d ∙ rw f (getD-set-same c (TOUCHED + o) (largestIn c o x) 0 (omega arith)))
+  kept-write = refl
+
+  kept-sum : keptIn c SUM o x ≡ set c (FOR-READS + o) (raised c FOR-READS o x)
+  unfolding keptIn
+  kept-sum = refl
+
+  set-long : (i j v w : ℕ) → length (set (set c i v) j w) ≡ length c
+  set-long i j v w = simp length-set
+
+  set-apart : (i j v w m : ℕ) → m ≢ i → m ≢ j → getD (set (set c i v) j w) m 0 ≡ getD c m 0
+  set-apart i j v w m d e = getD-set-other (set c i v) j m w 0 e ∙ getD-set-other c i m v 0 d
+
+  module _ (j : ℕ) (access : isAccess j ≡ true) where
+    pub kept-long : length (keptIn c j o x) ≡ length c
+    kept-long =
+        either (test-access j .0 access) (λ e. rw (e, kept-read) (set-long _ _ _ _))
+        (λ b. either b (λ e. rw (e, kept-write) (set-long _ _ _ _)) (λ e. rw (e, kept-sum) (length-set c (FOR-READS + o) _)))
+
+    -- Other cells than those of the location are left.
+    pub kept-other : (i : ℕ) → i ≢ FOR-READS + o → i ≢ FOR-SUMS + o → getD (keptIn c j o x) i 0 ≡ getD c i 0
+    kept-other i d e =
+        either (test-access j .0 access) (λ k. rw (k, kept-read) (set-apart _ _ _ _ i e e))
+        (λ b. either b (λ k. rw (k, kept-write) (set-apart _ _ _ _ i e d)) (λ k. rw (k, kept-sum) (getD-set-other c (FOR-READS + o) i _ 0 d)))
+
+  -- A write or a sum that passed is kept in FOR-READS, and a read or a write that passed in FOR-SUMS.
+  module _ (room : TABLES ≤ length c) (location : o < LOCATIONS) where
+    read-leaves : getD (keptIn c READ o x) (FOR-READS + o) 0 ≡ getD c (FOR-READS + o) 0
+    read-leaves = rw kept-read (set-apart _ _ _ _ (FOR-READS + o) (omega arith) (omega arith))
+
+    write-kept : heldAgainst c WRITE o ≤ x → getD (keptIn c WRITE o x) (FOR-READS + o) 0 ≡ raised c FOR-READS o x
+    write-kept quiet =
+        let held = held-write c o in
+        rw kept-write
+        (getD-set-same (set c (FOR-SUMS + o) (raised c FOR-SUMS o x)) (FOR-READS + o) (raised c FOR-SUMS o x) 0
+        (omega (arith, length-set c (FOR-SUMS + o) (raised c FOR-SUMS o x)))
+        ∙ omega arith)
+
+    sum-kept : getD (keptIn c SUM o x) (FOR-READS + o) 0 ≡ raised c FOR-READS o x
+    sum-kept = rw kept-sum (getD-set-same c (FOR-READS + o) (raised c FOR-READS o x) 0 (omega arith))
+
+    read-kept : getD (keptIn c READ o x) (FOR-SUMS + o) 0 ≡ raised c FOR-SUMS o x
+    read-kept =
+        rw kept-read
+        (getD-set-same (set c (FOR-SUMS + o) (raised c FOR-SUMS o x)) (FOR-SUMS + o) (raised c FOR-SUMS o x) 0
+        (omega (arith, length-set c (FOR-SUMS + o) (raised c FOR-SUMS o x))))
+
+    write-kept-too : getD (keptIn c WRITE o x) (FOR-SUMS + o) 0 ≡ raised c FOR-SUMS o x
+    write-kept-too =
+        rw kept-write
+        (getD-set-other (set c (FOR-SUMS + o) (raised c FOR-SUMS o x)) (FOR-READS + o) (FOR-SUMS + o) (raised c FOR-SUMS o x) 0 (omega arith)
+        ∙ getD-set-same c (FOR-SUMS + o) (raised c FOR-SUMS o x) 0 (omega arith))
+
+    sum-leaves : getD (keptIn c SUM o x) (FOR-SUMS + o) 0 ≡ getD c (FOR-SUMS + o) 0
+    sum-leaves = rw kept-sum (getD-set-other c (FOR-READS + o) (FOR-SUMS + o) _ 0 (omega arith))
+
+-- The cell v of those that conflict with kind k becomes v′ where an access of kind j with number x is kept.
+abbrev Raises : ℕ → ℕ → ℕ → ℕ → ℕ → Type 0
+Raises j k x v v′ = (conflicting j k ≡ true → v′ ≡ max v x) × (conflicting j k ≡ false → v′ ≡ v)
+
+raises : (j k x v v′ : ℕ) → conflicting j k ≡ true → v′ ≡ max v x → Raises j k x v v′
+raises j k x v v′ conflict e = (λ t. e, λ f. absurd (true≢false (sym conflict ∙ f)))
+
+leaves : (j k x v v′ : ℕ) → conflicting j k ≡ false → v′ ≡ v → Raises j k x v v′
+leaves j k x v v′ apart e = (λ t. absurd (true≢false (sym t ∙ apart)), λ f. e)
+
+module _ (c : List ℕ) (o x j : ℕ) (access : isAccess j ≡ true) (room : TABLES ≤ length c) (location : o < LOCATIONS) (quiet : heldAgainst c j o ≤ x) where
+  raises-for-reads : Raises j READ x (getD c (FOR-READS + o) 0) (getD (keptIn c j o x) (FOR-READS + o) 0)
+  unfolding conflicting
+  raises-for-reads =
+      either (test-access j .0 access) (λ e. rw e (leaves READ READ x _ _ refl (read-leaves c o x room location)))
+      (λ b.
+      either b (λ e. rw e (raises WRITE READ x _ _ refl (write-kept c o x room location (rw e at quiet))))
+      (λ e. rw e (raises SUM READ x _ _ refl (sum-kept c o x room location))))
+
+  raises-for-sums : Raises j SUM x (getD c (FOR-SUMS + o) 0) (getD (keptIn c j o x) (FOR-SUMS + o) 0)
+  unfolding conflicting
+  raises-for-sums =
+      either (test-access j .0 access) (λ e. rw e (raises READ SUM x _ _ refl (read-kept c o x room location)))
+      (λ b.
+      either b (λ e. rw e (raises WRITE SUM x _ _ refl (write-kept-too c o x room location)))
+      (λ e. rw e (leaves SUM SUM x _ _ refl (sum-leaves c o x room location))))
+
+-- Where there was no sum, FOR-READS stays below FOR-SUMS.
+pub calm-kept :
+    (c : List ℕ) (o x j : ℕ) → isAccess j ≡ true → j ≢ SUM → TABLES ≤ length c → o < LOCATIONS → heldAgainst c j o ≤ x → (sums : Bool) → Calm c sums
+    → Calm (keptIn c j o x) sums
+calm-kept c o x j access other room location quiet sums calm none l low =
+    let was = calm none l low in
+    let same : l ≢ o → getD (keptIn c j o x) (FOR-READS + l) 0 ≤ getD (keptIn c j o x) (FOR-SUMS + l) 0 =
+    λ d.
+    omega
+    (arith, kept-other c o x j access (FOR-READS + l) (λ q. d (omega arith)) (omega arith), kept-other c o x j access (FOR-SUMS + l) (omega arith) (λ q. d (omega arith))) in
+    either (same-or-not l o)
+    (λ e.
+    either (test-access j .0 access)
+    (λ k. rw (e, k) (let calm-o = rw e at was in omega (arith, read-leaves c o x room location, read-kept c o x room location)))
+    (λ b.
+    either b
+    (λ k.
+    rw (e, k)
+    (let calm-o = rw e at was in omega (arith, write-kept c o x room location (rw k at quiet), write-kept-too c o x room location)))
+    (λ k. absurd (other k))))
+    same
 
 -- ---- what the tables hold
 
 module _ (kinds operands : List ℕ) (number : ℕ → ℕ) where
   -- v is the largest number of those of the first n events that an access of kind k to location l is held against, 0 where there is none: what is smaller
   -- than v is smaller than the number of one of them.
-  abbrev pub Largest : ℕ → ℕ → ℕ → ℕ → Type 0
+  abbrev Largest : ℕ → ℕ → ℕ → ℕ → Type 0
   Largest k l n v = (x : ℕ) → (x < v) ↔ ((p : ℕ) × (p < n) × Against kinds operands k l p × (x < number p))
 
-  -- For each kind of access and each location.
-  abbrev pub Tables : ℕ → List ℕ → Type 0
-  Tables n c = (k l : ℕ) → isAccess k ≡ true → l < LOCATIONS → Largest k l n (heldAgainst c k l)
-
-  -- What a read is held against, a write is held against too.
-  against-write : {k l p : ℕ} → Against kinds operands k l p → Against kinds operands WRITE l p
-  against-write {p = p} a =
-      record { access = a .access; one-location = a .one-location; kinds-conflict = test-conflicting (getD kinds p 0) WRITE .1 (inr refl) }
+  -- For each location.
+  pub record Tables (n : ℕ) (c : List ℕ) : Type 0 where
+    pub for-reads : (l : ℕ) → l < LOCATIONS → Largest READ l n (getD c (FOR-READS + l) 0)
+    pub for-sums : (l : ℕ) → l < LOCATIONS → Largest SUM l n (getD c (FOR-SUMS + l) 0)
 
   -- What an access of kind k to l is held against, one event later: nothing new,
   largest-same : (k l n v : ℕ) → (Against kinds operands k l n → ⊥) → Largest k l n v → Largest k l (suc n) v
@@ -64,35 +214,69 @@ module _ (kinds operands : List ℕ) (number : ℕ → ℕ) where
     λ w. either (last-or-below (w .0) n (w .1)) (λ e. let a = w .2 in absurd (apart (rw e at a))) (λ h. before x .1 (w .0, h, w .2, w .3)),
   )
 
-  -- or that event. `touched` is the largest number of all accesses: it serves for k, too, where k is held against all, or the new number is no smaller.
-  largest-raised : (k l n touched v : ℕ) → v ≡ max touched (number n) → Against kinds operands k l n → (k ≡ WRITE) ⊎ (touched ≤ number n) →
-      Largest WRITE l n touched → Largest k l (suc n) v
-  largest-raised k l n touched v larger here serves before x = (
+  -- or that event.
+  largest-raised : (k l n v : ℕ) → Against kinds operands k l n → Largest k l n v → Largest k l (suc n) (max v (number n))
+  largest-raised k l n v here before x = (
     λ h. either (lt-or-le x (number n))
         (λ own. (n, omega arith, here, own))
-        (λ high. either serves
-        (λ e. let w = before x .0 (omega arith) in let i = w .1 in (w .0, omega arith, rw e (w .2), w .3))
-        (λ low. absurd (omega arith))),
+        (λ high. let w = before x .0 (omega arith) in let i = w .1 in (w .0, omega arith, w .2, w .3)),
     λ w. either (last-or-below (w .0) n (w .1))
         (λ e. let h = w .3 in let own = rw e at h in omega arith)
-        (λ h. let i = before x .1 (w .0, h, against-write (w .2), w .3) in omega arith),
+        (λ h. let i = before x .1 (w .0, h, w .2, w .3) in omega arith),
   )
 
   -- Before the first event that has another number than 0 the tables hold 0.
   pub tables-none : (n : ℕ) (c : List ℕ) → ((i : ℕ) → i < TABLES → getD c i 0 ≡ 0) → ((p : ℕ) → p < n → number p ≡ 0) → Tables n c
-  tables-none n c cleared zeros k l access low x =
-      let few = test-access-number k .0 access in
-      let cell = cleared (tableOf k + l) (omega arith) in (
-        λ h. absurd (omega arith),
-        λ w. let h = w .3 in absurd (omega (arith, zeros (w .0) (w .1))),
-      )
+  tables-none n c cleared zeros =
+      record {
+        for-reads = λ l low. none READ l (getD c (FOR-READS + l) 0) (cleared (FOR-READS + l) (omega arith));
+        for-sums = λ l low. none SUM l (getD c (FOR-SUMS + l) 0) (cleared (FOR-SUMS + l) (omega arith));
+      }
+    where
+      none : (k l v : ℕ) → v ≡ 0 → Largest k l n v
+      none k l v zero x = (λ h. absurd (omega arith), λ w. let h = w .3 in absurd (omega (arith, zeros (w .0) (w .1))))
 
   -- A fork, a join and a halt leave them.
   pub tables-move : (n : ℕ) (c : List ℕ) → isAccess (getD kinds n 0) ≡ false → Tables n c → Tables (suc n) c
-  tables-move n c move before k l access low =
-      largest-same k l n _ (λ a. true≢false (sym (a .access) ∙ move)) (before k l access low)
+  tables-move n c move before =
+      record {
+        for-reads = λ l low. largest-same READ l n _ (λ a. true≢false (sym (a .access) ∙ move)) (before .for-reads l low);
+        for-sums = λ l low. largest-same SUM l n _ (λ a. true≢false (sym (a .access) ∙ move)) (before .for-sums l low);
+      }
 
-  -- An access:
+  -- ---- an access
+
+  -- What conflicts with a write conflicts with a read or with a sum, and the other way round.
+  against-write : {k l p : ℕ} → Against kinds operands k l p → Against kinds operands WRITE l p
+  against-write {p = p} a =
+      record { access = a .access; one-location = a .one-location; kinds-conflict = test-conflicting (getD kinds p 0) WRITE .1 (inl (inr refl)) }
+
+  against-either : {l p : ℕ} → Against kinds operands WRITE l p → Against kinds operands READ l p ⊎ Against kinds operands SUM l p
+  against-either {l} {p} a =
+      let k = getD kinds p 0 in
+      let with : (other : ℕ) → conflicting k other ≡ true → Against kinds operands other l p =
+      λ other e. record { access = a .access; one-location = a .one-location; kinds-conflict = e } in
+      either (test-access k .0 (a .access)) (λ e. inr (with SUM (test-conflicting k SUM .1 (inr (inl (e, refl))))))
+      (λ b.
+      either b (λ e. inl (with READ (test-conflicting k READ .1 (inl (inl e)))))
+      (λ e. inl (with READ (test-conflicting k READ .1 (inr (inr (e, refl)))))))
+
+  -- So the tables tell the largest number that an access is held against.
+  held-largest : (n : ℕ) (c : List ℕ) → Tables n c → (k l : ℕ) → isAccess k ≡ true → l < LOCATIONS → Largest k l n (heldAgainst c k l)
+  held-largest n c before k l access low =
+      either (test-access k .0 access) (λ e. rw (e, held-read) (before .for-reads l low))
+      (λ b. either b (λ e. rw (e, held-write) of-write) (λ e. rw (e, held-sum) (before .for-sums l low)))
+    where
+      of-write : Largest WRITE l n (max (getD c (FOR-READS + l) 0) (getD c (FOR-SUMS + l) 0))
+      of-write x = (
+        λ h. either (lt-or-le x (getD c (FOR-READS + l) 0))
+            (λ i. let w = before .for-reads l low x .0 i in (w .0, w .1, against-write (w .2), w .3))
+            (λ i. let w = before .for-sums l low x .0 (omega arith) in (w .0, w .1, against-write (w .2), w .3)),
+        λ w. either (against-either (w .2))
+            (λ a. let h = before .for-reads l low x .1 (w .0, w .1, a, w .3) in omega arith)
+            (λ a. let h = before .for-sums l low x .1 (w .0, w .1, a, w .3) in omega arith),
+      )
+
   module _ (n : ℕ) (c : List ℕ) (room : TABLES ≤ length c) (access : isAccess (getD kinds n 0) ≡ true) (location : getD operands n 0 < LOCATIONS)
       (before : Tables n c) where
     abbrev j : ℕ
@@ -101,51 +285,39 @@ module _ (kinds operands : List ℕ) (number : ℕ → ℕ) where
     abbrev o : ℕ
     o = getD operands n 0
 
-    -- it races exactly if the cell that it is held against is larger,
+    -- It races exactly if that is larger than its own;
     pub race-by-table : (number n < heldAgainst c j o) ↔ ((p : ℕ) × RaceByNumber kinds operands number p n)
     race-by-table =
-        let cell = before j o access location (number n) in (
-          λ h. let w = cell .0 h in (w .0, record { before = w .1; access = access; against = w .2; smaller = w .3 }),
-          λ w. let r = w .1 in cell .1 (w .0, r .before, r .against, r .smaller),
+        let held = held-largest n c before j o access location (number n) in (
+          λ h. let w = held .0 h in (w .0, record { before = w .1; access = access; against = w .2; smaller = w .3 }),
+          λ w. let r = w .1 in held .1 (w .0, r .before, r .against, r .smaller),
         )
 
-    -- and one that does not is kept,
+    -- and one that does not is kept.
     module _ (quiet : heldAgainst c j o ≤ number n) where
       abbrev kept : List ℕ
       kept = keptIn c j o (number n)
 
-      low : j < FORK
-      low = test-access-number j .0 access
+      largest-kept : (k v v′ : ℕ) → Raises j k (number n) v v′ → Largest k o n v → Largest k o (suc n) v′
+      largest-kept k v v′ changes was =
+          by-test (conflicting j k)
+          (λ yes.
+          rw (changes .0 yes) (largest-raised k o n v (record { access = access; one-location = refl; kinds-conflict = yes }) was))
+          (λ no. rw (changes .1 no) (largest-same k o n v (λ a. true≢false (sym (a .kinds-conflict) ∙ no)) was))
 
-      -- in the tables of the kinds that it conflicts with
-      kept-here : (k : ℕ) → isAccess k ≡ true → conflicting j k ≡ true → Largest k o (suc n) (heldAgainst kept k o)
-      kept-here k held conflict =
-          let m = low in
-          let m′ = test-access-number k .0 held in
-          let writes = test-conflicting j k .0 conflict in
-          let cell : (tableOf k + o ≡ TOUCHED + o) ⊎ (tableOf k + o ≡ alsoKept j + o) =
-          either (same-or-not (tableOf k) TOUCHED) (λ e. inl (omega arith)) (λ d. inr (either writes (λ e. omega arith) (λ e. absurd (omega arith)))) in
-          let serves : (k ≡ WRITE) ⊎ (getD c (TOUCHED + o) 0 ≤ number n) = either writes (λ e. inr (rw e at quiet)) (λ e. inl e) in
-          let here : Against kinds operands k o n = record { access = access; one-location = refl; kinds-conflict = conflict } in
-          rw (kept-at c j o (number n) room location (tableOf k + o) cell)
-          (largest-raised k o n (getD c (TOUCHED + o) 0) (largestIn c o (number n)) (omega arith) here serves
-          (before WRITE o (test-access-number WRITE .1 (omega arith)) location))
-
-      -- and nowhere else.
-      kept-away : (k l : ℕ) → isAccess k ≡ true → l < LOCATIONS → tableOf k + l ≢ TOUCHED + o → tableOf k + l ≢ alsoKept j + o →
-          (Against kinds operands k l n → ⊥) → Largest k l (suc n) (heldAgainst kept k l)
-      kept-away k l held small d e apart = rw (kept-other c j o (number n) (tableOf k + l) d e) (largest-same k l n _ apart (before k l held small))
+      largest-away : (k l i : ℕ) → l ≢ o → i ≢ FOR-READS + o → i ≢ FOR-SUMS + o → Largest k l n (getD c i 0) → Largest k l (suc n) (getD kept i 0)
+      largest-away k l i other d e was =
+          rw (kept-other c o (number n) j access i d e) (largest-same k l n _ (λ a. other (sym (a .one-location))) was)
 
       pub tables-kept : Tables (suc n) kept
-      tables-kept k l held small =
-          let m = low in
-          let m′ = test-access-number k .0 held in
-          either (same-or-not l o)
-          (λ same. by-test (conflicting j k)
-          (λ conflict. rw same (kept-here k held conflict))
-          (λ none.
-          let reads = tests-fails (conflicting j k) (test-conflicting j k) none in
-          let d : j ≢ WRITE = λ e. reads (inl e) in
-          let d′ : k ≢ WRITE = λ e. reads (inr e) in
-          kept-away k l held small (λ q. omega arith) (λ q. omega arith) (λ a. reads (test-conflicting j k .0 (a .kinds-conflict)))))
-          (λ other. kept-away k l held small (λ q. omega arith) (λ q. omega arith) (λ a. other (sym (a .one-location))))
+      tables-kept =
+          record {
+            for-reads = λ l low.
+                either (same-or-not l o)
+                (λ same. rw same (largest-kept READ _ _ (raises-for-reads c o (number n) j access room location quiet) (before .for-reads o location)))
+                (λ other. largest-away READ l (FOR-READS + l) other (λ q. other (omega arith)) (omega arith) (before .for-reads l low));
+            for-sums = λ l low.
+                either (same-or-not l o)
+                (λ same. rw same (largest-kept SUM _ _ (raises-for-sums c o (number n) j access room location quiet) (before .for-sums o location)))
+                (λ other. largest-away SUM l (FOR-SUMS + l) other (omega arith) (λ q. other (omega arith)) (before .for-sums l low));
+          }

@@ -3,11 +3,11 @@ use Prim.Native.Nat.{ℕ, suc, _+_, _<_, _≤_}
 use mathlib.Core.Path.{_≡_, refl, sym, ap, subst, fun-ext, _∙_}
 use mathlib.Core.Bool.{Bool, true, false, true≢false}
 use mathlib.Core.List.{List}
-use mathlib.Core.Logic.{_↔_}
+use mathlib.Core.Logic.{_≢_, _↔_}
 use native.Mathlib.Omega.{arith}
 use native.Mathlib.Numerals.{add-one}
 use lib.ListN.{length, getD}
-use Rattle.trace.specs.Trace.{isAccess, WORKSPACE-CELLS}
+use Rattle.trace.specs.Trace.{SUM, isAccess, WORKSPACE-CELLS}
 use Rattle.trace.proofs.Tests.{either, last-or-below}
 use Rattle.cells.specs.Cells.{zeroed, SameFrom}
 use Rattle.cells.proofs.Zeroed.{zeroed-length, zeroed-below, zeroed-beyond}
@@ -17,17 +17,19 @@ use Rattle.ranks.specs.Lists.{NEXT, SEGMENTS}
 use Rattle.ranks.specs.States.{kindsOnly, ownNumber}
 use Rattle.ranks.proofs.Ranking.{access-segment, moves-on, moves-more, leading-moves, leading-zero}
 use Rattle.scan.specs.Numbered.{Numbered, RaceByNumber, FirstRace}
-use Rattle.scan.specs.Tables.{TABLES, heldAgainst, Testable, TestSays}
-use Rattle.scan.proofs.Largest.{kept-long, kept-other, Tables, tables-none, tables-move, tables-kept, race-by-table}
+use Rattle.scan.specs.Tables.{FOR-READS, TABLES, heldAgainst, Testable, Calm, TestSays}
+use Rattle.scan.proofs.Largest.{kept-long, kept-other, calm-kept, Tables, tables-none, tables-move, tables-kept, race-by-table}
 
 -- Before each turn the tables hold the largest numbers of the first t events, and none of these races with an earlier one; `current` counts the moves among
--- them. The cells were `start` where the loop began, and the numbers still stand there.
-pub record Scanning (kinds operands : List ℕ) (from events : ℕ) (start c : List ℕ) (current t : ℕ) : Type 0 where
+-- them, and `number` is that of the open segment. The cells were `start` where the loop began, and the numbers still stand there.
+pub record Scanning (kinds operands : List ℕ) (from events : ℕ) (start c : List ℕ) (current number : ℕ) (sums : Bool) (t : ℕ) : Type 0 where
   pub within : t ≤ events
   pub counts : current ≡ moves (kindsOnly kinds) t
+  pub opened : number ≡ getD start (NEXT + current) 0
   pub numbered : Numbered kinds operands start from events
   pub beyond : SameFrom TABLES start c
   pub tables : Tables kinds operands (ownNumber kinds start) t c
+  pub calm : Calm c sums
   pub none : (p q : ℕ) → q < t → RaceByNumber kinds operands (ownNumber kinds start) p q → ⊥
 
 -- Event r is the first that races, by the numbers of `start`, and they still stand in `c`.
@@ -45,7 +47,10 @@ module _ (kinds operands : List ℕ) (from events : ℕ) where
     begun-numbers : (p : ℕ) → ownNumber kinds start p ≡ ownNumber kinds entry p
     begun-numbers p = begun-beyond .same (NEXT + segment (kindsOnly kinds) p) (omega arith)
 
-    pub scan-begin : Scanning kinds operands from events start start 0 from
+    cleared-cell : (i : ℕ) → i < TABLES → getD start i 0 ≡ 0
+    cleared-cell i h = rw e (zeroed-below TABLES entry i h)
+
+    pub scan-begin : Scanning kinds operands from events start start 0 0 false from
     scan-begin =
         let ready = lent .segments-in in
         let zeros : (p : ℕ) → p < from → ownNumber kinds start p ≡ 0 =
@@ -55,12 +60,14 @@ module _ (kinds operands : List ℕ) (from events : ℕ) where
         record {
           within = lent .within;
           counts = sym (leading-moves kinds from (lent .leading));
+          opened = sym (begun-beyond .same (NEXT + 0) (omega arith) ∙ ready .zero);
           numbered =
               record {
                 of-operands = lent .of-operands;
                 segments-in =
                     record {
                       within = ready .within;
+                      named = ready .named;
                       few = ready .few;
                       room = omega arith;
                       zero = begun-beyond .same (NEXT + 0) (omega arith) ∙ ready .zero;
@@ -70,7 +77,8 @@ module _ (kinds operands : List ℕ) (from events : ℕ) where
                 leading = lent .leading;
               };
           beyond = record { long = refl; same = λ i h. refl };
-          tables = tables-none kinds operands (ownNumber kinds start) from start (λ i h. rw e (zeroed-below TABLES entry i h)) zeros;
+          tables = tables-none kinds operands (ownNumber kinds start) from start cleared-cell zeros;
+          calm = λ none l low. omega (arith, cleared-cell (FOR-READS + l) (omega arith));
           none = λ p q h r. let i = r .before in let s = r .smaller in absurd (omega (arith, zeros p (omega arith)));
         }
 
@@ -81,7 +89,7 @@ module _ (kinds operands : List ℕ) (from events : ℕ) where
       record { long = f .1 .long ∙ begun-beyond .long; same = λ i h. f .1 .same i h ∙ begun-beyond .same i h },
     )
 
-  module _ {start c : List ℕ} {current t : ℕ} (s : Scanning kinds operands from events start c current t) where
+  module _ {start c : List ℕ} {current number t : ℕ} {sums : Bool} (s : Scanning kinds operands from events start c current number sums t) where
     pub scan-end : events ≤ t → Found kinds operands events start c t
     scan-end h = (record { within = s .within; none-before = s .none; race = λ i. absurd (omega arith) }, s .beyond)
 
@@ -101,17 +109,29 @@ module _ (kinds operands : List ℕ) (from events : ℕ) where
           (p q : ℕ) → q < suc t → RaceByNumber kinds operands (ownNumber kinds start) p q → ⊥
       none-next at p q h r = either (last-or-below q t h) (λ e. at p (rw e at r)) (λ i. s .none p q i r)
 
-      pub scan-move : isAccess (getD kinds t 0) ≡ false → Scanning kinds operands from events start c (current + 1) (t + 1)
-      scan-move move =
-          rw (add-one current, add-one t)
-          (record {
-            within = omega arith;
-            counts = ap suc (s .counts) ∙ sym (moves-more kinds t move);
-            numbered = s .numbered;
-            beyond = s .beyond;
-            tables = tables-move kinds operands (ownNumber kinds start) t c move (s .tables);
-            none = none-next (λ p r. true≢false (sym (r .access) ∙ move));
-          })
+      module _ (move : isAccess (getD kinds t 0) ≡ false) where
+        -- The next segment has one too.
+        pub scan-next : current + 1 < SEGMENTS
+        scan-next =
+            let e = s .counts in
+            let few = s .numbered .segments-in .few in
+            omega (arith, moves-more kinds t move, moves-rise (kindsOnly kinds) (suc t) events inside)
+
+        pub scan-move :
+            (next : ℕ) → next ≡ getD c (NEXT + (current + 1)) 0 → Scanning kinds operands from events start c (current + 1) next sums (t + 1)
+        scan-move next read =
+            let few = scan-next in
+            rw (add-one t)
+            (record {
+              within = omega arith;
+              counts = add-one current ∙ (ap suc (s .counts) ∙ sym (moves-more kinds t move));
+              opened = read ∙ s .beyond .same (NEXT + (current + 1)) (omega arith);
+              numbered = s .numbered;
+              beyond = s .beyond;
+              tables = tables-move kinds operands (ownNumber kinds start) t c move (s .tables);
+              calm = s .calm;
+              none = none-next (λ p r. true≢false (sym (r .access) ∙ move));
+            })
 
       module _ (access : isAccess (getD kinds t 0) ≡ true) where
         abbrev k : ℕ
@@ -124,40 +144,56 @@ module _ (kinds operands : List ℕ) (from events : ℕ) where
         scan-testable =
             record { access = access; location = s .numbered .locations t inside access; room = let room = scan-room in omega arith }
 
-        module _ (x : ℕ) (read : x ≡ getD c (NEXT + current) 0) where
-          own : x ≡ ownNumber kinds start t
-          own =
-              read
-              ∙ (s .beyond .same (NEXT + current) (omega arith)
-              ∙ ap (λ (g : ℕ). getD start (NEXT + g) 0) (s .counts ∙ sym (access-segment kinds t access)))
+        own : number ≡ ownNumber kinds start t
+        own = s .opened ∙ ap (λ (g : ℕ). getD start (NEXT + g) 0) (s .counts ∙ sym (access-segment kinds t access))
 
-          told : (x < heldAgainst c k l) ↔ ((p : ℕ) × RaceByNumber kinds operands (ownNumber kinds start) p t)
-          told =
-              let f = scan-testable in
-              rw own (race-by-table kinds operands (ownNumber kinds start) t c (f .room) access (f .location) (s .tables))
+        told : (number < heldAgainst c k l) ↔ ((p : ℕ) × RaceByNumber kinds operands (ownNumber kinds start) p t)
+        told =
+            let f = scan-testable in
+            rw own (race-by-table kinds operands (ownNumber kinds start) t c (f .room) access (f .location) (s .tables))
 
-          pub scan-kept : (d : List ℕ) (r : Bool) → r ≡ true → TestSays c d k l x r → Scanning kinds operands from events start d current (t + 1)
-          scan-kept d false e says = absurd (true≢false (sym e))
-          scan-kept d true e says =
+        -- It passed and was kept: a sum is one from now on.
+        module _ (d : List ℕ) (says : TestSays c d k l number true) where
+          kept-with : (sums′ : Bool) → Calm d sums′ → Scanning kinds operands from events start d current number sums′ (t + 1)
+          kept-with sums′ calm =
               let f = scan-testable in
               let quiet = says .0 in
               let o = own in
-              rw (add-one t, says .1)
+              rw (add-one t)
               (record {
                 within = omega arith;
                 counts = s .counts ∙ sym (moves-on kinds t access);
+                opened = s .opened;
                 numbered = s .numbered;
                 beyond =
-                    record {
-                      long = kept-long c k l x ∙ s .beyond .long;
-                      same = λ i h. kept-other c k l x i (λ q. omega arith) (λ q. omega arith) ∙ s .beyond .same i h;
-                    };
-                tables = rw o (tables-kept kinds operands (ownNumber kinds start) t c (f .room) access (f .location) (s .tables) (omega arith));
+                    rw (says .1)
+                    (record {
+                      long = kept-long c l number k access ∙ s .beyond .long;
+                      same = λ i h. kept-other c l number k access i (λ q. omega arith) (λ q. omega arith) ∙ s .beyond .same i h;
+                    });
+                tables = rw (says .1, o) (tables-kept kinds operands (ownNumber kinds start) t c (f .room) access (f .location) (s .tables) (omega arith));
+                calm = calm;
                 none = none-next (λ p r. let h = told .1 (p, r) in omega arith);
               })
 
-          pub scan-race : (d : List ℕ) (r : Bool) → r ≡ false → TestSays c d k l x r → Found kinds operands events start d t
-          scan-race d true e says = absurd (true≢false e)
-          scan-race d false e says =
-              let lower = says .0 in
-              (record { within = s .within; none-before = s .none; race = λ h. told .0 (omega arith) }, rw (says .1) (s .beyond))
+        pub scan-kept :
+            (d : List ℕ) (r : Bool) → k ≢ SUM → r ≡ true → TestSays c d k l number r → Scanning kinds operands from events start d current number sums (t + 1)
+        scan-kept d false other e says = absurd (true≢false (sym e))
+        scan-kept d true other e says =
+            let f = scan-testable in
+            kept-with d says sums (rw (says .1) (calm-kept c l number k access other (f .room) (f .location) (says .0) sums (s .calm)))
+
+        pub scan-sum-kept :
+            (d : List ℕ) (r : Bool) → k ≡ SUM → r ≡ true → TestSays c d SUM l number r → Scanning kinds operands from events start d current number true (t + 1)
+        scan-sum-kept d false is e says = absurd (true≢false (sym e))
+        scan-sum-kept d true is e says = kept-with d (rw is says) true (λ never. absurd (true≢false never))
+
+        -- It races.
+        pub scan-race : (d : List ℕ) (r : Bool) → r ≡ false → TestSays c d k l number r → Found kinds operands events start d t
+        scan-race d true e says = absurd (true≢false e)
+        scan-race d false e says =
+            let lower = says .0 in
+            (record { within = s .within; none-before = s .none; race = λ h. told .0 (omega arith) }, rw (says .1) (s .beyond))
+
+        pub scan-sum-race : (d : List ℕ) (r : Bool) → k ≡ SUM → r ≡ false → TestSays c d SUM l number r → Found kinds operands events start d t
+        scan-sum-race d r is e says = scan-race d r e (rw is says)

@@ -1,33 +1,35 @@
 -- The tables of largest numbers, and what the test of one access leaves in them. Assumes nothing.
 use Prim.Native.Nat.{ℕ, max, _+_, _-_, _*_, _<_, _≤_}
 use mathlib.Core.Path.{_≡_}
-use mathlib.Core.Bool.{Bool, true, false}
+use mathlib.Core.Bool.{Bool, true, false, cond}
 use mathlib.Core.List.{List}
+use lib.Dec.{eqb}
 use lib.ListN.{length, getD, set}
-use Rattle.trace.specs.Trace.{isAccess, LOCATIONS}
+use Rattle.trace.specs.Trace.{SUM, isAccess, LOCATIONS}
 
--- For each location the largest number of an earlier write, and of any earlier access.
-abbrev pub WRITTEN : ℕ
-WRITTEN = 0
+-- For each location the largest number of an earlier write or sum, which a read is held against,
+abbrev pub FOR-READS : ℕ
+FOR-READS = 0
 
-abbrev pub TOUCHED : ℕ
-TOUCHED = 1024
+-- and of an earlier read or write, which a sum is held against. A write is held against both.
+abbrev pub FOR-SUMS : ℕ
+FOR-SUMS = 1024
 
 -- The cells of both.
 abbrev pub TABLES : ℕ
 TABLES = 2048
 
--- The table that an access of kind k is held against: WRITTEN for a read, TOUCHED for a write.
+-- The table that a read or a write is held against beside FOR-READS: FOR-SUMS for a write, FOR-READS again for a read.
 abbrev pub tableOf : ℕ → ℕ
-tableOf k = WRITTEN + LOCATIONS * k
+tableOf k = FOR-READS + LOCATIONS * k
 
--- The table that it is kept in beside TOUCHED: TOUCHED again for a read, WRITTEN for a write.
+-- The table that it is kept in beside FOR-SUMS: FOR-READS for a write, FOR-SUMS again for a read.
 abbrev pub alsoKept : ℕ → ℕ
-alsoKept k = TOUCHED - LOCATIONS * k
+alsoKept k = FOR-SUMS - LOCATIONS * k
 
 -- The largest number that an access of kind k to location l is held against.
-abbrev pub heldAgainst : List ℕ → ℕ → ℕ → ℕ
-heldAgainst c k l = getD c (tableOf k + l) 0
+unfoldable pub heldAgainst : List ℕ → ℕ → ℕ → ℕ
+heldAgainst c k l = cond (eqb k SUM) (getD c (FOR-SUMS + l) 0) (max (getD c (FOR-READS + l) 0) (getD c (tableOf k + l) 0))
 
 -- What is asked for the test of an access of kind k to location l.
 pub record Testable (c : List ℕ) (k l : ℕ) : Type 0 where
@@ -35,12 +37,19 @@ pub record Testable (c : List ℕ) (k l : ℕ) : Type 0 where
   pub location : l < LOCATIONS
   pub room : TABLES ≤ length c
 
--- An access with number x is kept: the larger of its number and TOUCHED's. For a write that passed that is x, in both tables.
-abbrev pub largestIn : List ℕ → ℕ → ℕ → ℕ
-largestIn c l x = max (getD c (TOUCHED + l) 0) x
+-- Where no sum has been kept, nothing is in FOR-READS that is not in FOR-SUMS too, so that a write need not be held against it.
+abbrev pub Calm : List ℕ → Bool → Type 0
+Calm c sums = sums ≡ false → (l : ℕ) → l < LOCATIONS → getD c (FOR-READS + l) 0 ≤ getD c (FOR-SUMS + l) 0
 
+-- The larger of x and the number of location l in a table.
+abbrev pub raised : List ℕ → ℕ → ℕ → ℕ → ℕ
+raised c table l x = max (getD c (table + l) 0) x
+
+-- An access with number x is kept: a sum in FOR-READS, a read in FOR-SUMS, a write in both. For a write that passed, x is the largest in either.
 unfoldable pub keptIn : List ℕ → ℕ → ℕ → ℕ → List ℕ
-keptIn c k l x = set (set c (TOUCHED + l) (largestIn c l x)) (alsoKept k + l) (largestIn c l x)
+keptIn c k l x =
+    cond (eqb k SUM) (set c (FOR-READS + l) (raised c FOR-READS l x))
+    (set (set c (FOR-SUMS + l) (raised c FOR-SUMS l x)) (alsoKept k + l) (raised c FOR-SUMS l x))
 
 -- What the test says: the access passes and is kept, or the largest number that it is held against is larger and no cell has changed.
 abbrev pub TestSays : List ℕ → List ℕ → ℕ → ℕ → ℕ → Bool → Type 0

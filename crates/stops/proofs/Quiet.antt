@@ -1,11 +1,15 @@
--- What is known of an event that is no stop. Assumes nothing.
-use Prim.Native.Nat.{ℕ, suc, _<_}
-use mathlib.Core.Path.{_≡_, refl}
+-- What is known of an event that is no stop, and the mark of an event by the slices. Assumes nothing.
+use Prim.Native.Nat.{ℕ, suc, _-_, _<_}
+use mathlib.Core.Path.{_≡_, refl, _∙_}
 use mathlib.Core.Bool.{Bool, true, false, _&&_}
+use mathlib.Core.List.{List}
+use native.Mathlib.Numerals.{sub-one}
+use native.Mathlib.Omega.{arith}
+use lib.ListN.{getD}
 use borrow.Author.Tests.{not-false, eqb-true, ltb-true}
-use Rattle.trace.specs.Trace.{Trace, isAccess, LOCATIONS}
+use Rattle.trace.specs.Trace.{Trace, traceOf, isAccess, LOCATIONS}
 use Rattle.trace.proofs.Tests.{test-self, test-and}
-use Rattle.stops.specs.Stops.{isQuietAfter, isStop}
+use Rattle.stops.specs.Stops.{isQuietAfter, isStop, markOf, stopMark}
 
 -- Event q + 1 follows event q, an access too, of the same task.
 pub record QuietAfter (tr : Trace) (q : ℕ) : Type 0 where
@@ -28,3 +32,12 @@ quiet-event tr q e =
     let one-task = both _ _ (quiet .0) in
     let accesses = both _ _ (one-task .0) in
     record { before = accesses .0; access = accesses .1; task = eqb-true _ _ (one-task .1); location = ltb-true _ _ (quiet .1) }
+
+-- The mark that the code stores, by the slices.
+pub mark-is :
+    (kinds tasks operands : List ℕ) (p r : ℕ) (previous access : Bool) → 0 < p → previous ≡ isAccess (getD kinds (p - 1) 0) → access ≡ isAccess (getD kinds p 0)
+    → r ≡ stopMark (previous && access) tasks operands p → r ≡ markOf (isStop (traceOf kinds tasks operands)) p
+unfolding isStop isQuietAfter traceOf
+mark-is kinds tasks operands p r previous access some before here stored =
+    let e : suc (p - 1) ≡ p = omega arith in
+    stored ∙ rw (before, here, ← e, sub-one (suc (p - 1)))

@@ -1,5 +1,5 @@
 -- Stops: the events that must be held to the line rules, and the list of them in cells. Assumes nothing.
-use Prim.Native.Nat.{ℕ, zero, suc, _+_, _<_, _≤_}
+use Prim.Native.Nat.{ℕ, zero, suc, _+_, _-_, _<_, _≤_}
 use mathlib.Core.Path.{_≡_}
 use mathlib.Core.Bool.{Bool, true, cond, not, _&&_}
 use mathlib.Core.List.{List}
@@ -22,6 +22,11 @@ isStop tr (suc p) = not (isQuietAfter tr p)
 -- 1 where event p is a stop, else 0. Here and below `stop` says which events are stops.
 abbrev pub markOf : (ℕ → Bool) → ℕ → ℕ
 markOf stop p = cond (stop p) 1 0
+
+-- The same by the slices, where it is known whether event p, which is not the first, and the event before it are accesses.
+abbrev pub stopMark : Bool → List ℕ → List ℕ → ℕ → ℕ
+stopMark accesses tasks operands p =
+    cond (not ((accesses && eqb (getD tasks p 0) (getD tasks (p - 1) 0)) && ltb (getD operands p 0) LOCATIONS)) 1 0
 
 -- How many of the first n events are stops.
 unfoldable pub stopsBefore : (ℕ → Bool) → ℕ → ℕ

@@ -8,23 +8,22 @@ ghost use Rattle.trace.specs.Trace.{MAX-EVENTS};
 ghost use Rattle.trace.specs.Lent.{lentTrace};
 ghost use Rattle.trace.proofs.Sizes.{Sized};
 ghost use Rattle.cells.specs.Cells.{Filled, NUMBER, numberIn};
-ghost use Rattle.stops.specs.Stops.{isStop, markOf, Marks, isMarked, Collected};
+ghost use Rattle.stops.specs.Stops.{isStop, markOf, stopMark, Marks, isMarked, Collected};
 use cells::NUMBER;
 use trace::LOCATIONS;
 
-// 1 where event p, which is not the first, is a stop, else 0. Each `&` asks both its sides: `&&` would branch.
-fn stop_at(kinds: &[u8], tasks: &[u16], operands: &[u16], p: usize) -> u16
-    requires { ⌜ (0 < p) × (p < length (now kinds)) ⌝ }
-    requires { ⌜ length (now tasks) ≡ length (now kinds) ⌝ }
-    requires { ⌜ length (now operands) ≡ length (now kinds) ⌝ }
-    ensures { λ r. ⌜ r ≡ markOf (isStop (lentTrace (kinds .entry) (tasks .entry) (operands .entry))) p ⌝ }
+// 1 where event p, which is not the first, is a stop, else 0; it is told whether p and the event before it are accesses. Each `&` asks both its sides: `&&`
+// would branch.
+fn stop_at(accesses: bool, tasks: &[u16], operands: &[u16], p: usize) -> u16
+    requires { ⌜ (0 < p) × (p < length (now tasks)) × (p < length (now operands)) ⌝ }
+    ensures { λ r. ⌜ r ≡ stopMark accesses (now (tasks .entry)) (now (operands .entry)) p ⌝ }
 {
-    let accesses = trace::is_access(kinds[p - 1]) & trace::is_access(kinds[p]);
     let quiet = accesses & (tasks[p] == tasks[p - 1]) & (operands[p] < LOCATIONS);
     !quiet as u16
 }
 
-// Marks each event by 1 where it is a stop, else by 0, in the cell where its number will stand.
+// Marks each event by 1 where it is a stop, else by 0, in the cell where its number will stand. Whether an event is an access is asked once and kept for the
+// next one.
 fn mark(kinds: &[u8], tasks: &[u16], operands: &[u16], ws: &mut [u16])
     requires { ⌜ Sized (now kinds) (now tasks) (now operands) (now ws) (length (now kinds)) ⌝ }
     ensures { λ _. ⌜ Filled NUMBER (length (now (kinds .entry))) (markOf (isStop (lentTrace (kinds .entry) (tasks .entry) (operands .entry))))
@@ -34,9 +33,12 @@ fn mark(kinds: &[u8], tasks: &[u16], operands: &[u16], ws: &mut [u16])
         return;
     }
     ws[NUMBER] = 1;
+    let mut previous = trace::is_access(kinds[0]);
     let mut p = 1;
     while p < kinds.len() {
-        ws[NUMBER + p] = stop_at(kinds, tasks, operands, p);
+        let access = trace::is_access(kinds[p]);
+        ws[NUMBER + p] = stop_at(previous & access, tasks, operands, p);
+        previous = access;
         p += 1;
     }
 }

@@ -73,7 +73,7 @@ pub struct Laid {
     pub want: Reply,
 }
 
-fn make_laid(events: usize, want: Reply) -> Laid {
+pub fn make_laid(events: usize, want: Reply) -> Laid {
     Laid { events, want }
 }
 

@@ -1,5 +1,5 @@
 // The runs that document 01 tells, as a table: each trace with its answer and its links, and with both orders where they are told. Document 01 tells no links:
-// they are drawn by hand from document 02's K2.
+// they are drawn by hand from document 02's K2. Where it has kind 5 it is read with kind 6, as K3 says.
 use crate::REFUSED;
 use crate::Reply;
 use crate::make_reply;
@@ -36,10 +36,10 @@ pub fn read_runs(cells: &mut [u16]) -> usize {
 # a task joins one that it did not fork, and with '0 join 2' before the write
 8 8 RACE 1 7 1: 0 fork 1, 1 read 7, 1 halt 0, 0 read 7, 0 fork 2, 2 join 1, 2 halt 0, 0 write 7; 0 3 4 1 7 2 5 6; 0 3 4 7 1 2 5 6
 9 0 CLEAN 0 0 1: 0 fork 1, 1 read 7, 1 halt 0, 0 read 7, 0 fork 2, 2 join 1, 2 halt 0, 0 join 2, 0 write 7
-# '0 halt', then kind 5
-2 0 REFUSED 5 1 0: 0 halt 0, 0 5 0
+# '0 halt', then kind 6
+2 0 REFUSED 5 1 0: 0 halt 0, 0 6 0
 # the examples of rows 5 to 12
-1 0 REFUSED 5 0 0: 0 5 0
+1 0 REFUSED 5 0 0: 0 6 0
 2 0 REFUSED 6 1 0: 0 halt 0, 0 read 1
 1 0 REFUSED 7 0 0: 1 read 0
 1 0 REFUSED 10 0 0: 0 fork 0
@@ -54,7 +54,7 @@ pub fn read_runs(cells: &mut [u16]) -> usize {
 # a trace may end with the halt of task 0
 1 0 CLEAN 0 0 0: 0 halt 0
 # later events are not looked at
-5 0 RACE 1 3 0: 0 fork 1, 1 write 5, 1 halt 0, 0 write 5, 0 5 0
+5 0 RACE 1 3 0: 0 fork 1, 1 write 5, 1 halt 0, 0 write 5, 0 6 0
 # Figure 6 misses a write before an unordered read, the run of the text form
 4 4 RACE 1 3 0: 0 fork 1, 1 write 5, 1 halt 0, 0 read 5; 0 1 3 2; 0 3 1 2
 # Only the last reader remembered
@@ -70,8 +70,8 @@ pub fn read_runs(cells: &mut [u16]) -> usize {
     )
 }
 
-// Runs told wrong: the answer, a cell of the first order, a cell of the second; the links of a clean trace and of a race, too many and too few; and links beside
-// a refusal.
+// Runs told wrong: the answer, a cell of the first order, a cell of the second; the links of a clean trace and of a race, too many and too few; links beside a
+// refusal; and what a judge would answer that takes sums for something else.
 pub fn read_wrong_runs(cells: &mut [u16]) -> usize {
     read_table(
         b"
@@ -83,6 +83,26 @@ pub fn read_wrong_runs(cells: &mut [u16]) -> usize {
 8 0 RACE 1 7 0: 0 fork 1, 1 read 5, 1 halt 0, 0 fork 2, 2 read 5, 2 halt 0, 0 join 2, 0 write 5
 8 0 RACE 1 7 2: 0 fork 1, 1 read 5, 1 halt 0, 0 fork 2, 2 read 5, 2 halt 0, 0 join 2, 0 write 5
 5 0 REFUSED 11 4 1: 0 fork 1, 1 halt 0, 0 fork 2, 2 halt 0, 0 join 1
+# a sum conflicts with a sum
+4 0 RACE 1 3 0: 0 fork 1, 1 sum 5, 1 halt 0, 0 sum 5
+# a read does not conflict with a sum, either way round
+4 0 CLEAN 0 0 0: 0 fork 1, 1 sum 5, 1 halt 0, 0 read 5
+4 0 CLEAN 0 0 0: 0 fork 1, 1 read 5, 1 halt 0, 0 sum 5
+# a write does not conflict with a sum, either way round
+4 0 CLEAN 0 0 0: 0 fork 1, 1 sum 5, 1 halt 0, 0 write 5
+4 0 CLEAN 0 0 0: 0 fork 1, 1 write 5, 1 halt 0, 0 sum 5
+# a sum is kept as a write, and that of task 2 held against it
+5 0 RACE 1 4 0: 0 fork 1, 1 sum 5, 1 halt 0, 0 fork 2, 2 sum 5
+# only the last sum is kept
+5 0 CLEAN 0 0 0: 0 fork 1, 1 sum 5, 1 halt 0, 0 sum 5, 0 read 5
+5 0 CLEAN 0 0 0: 0 fork 1, 1 sum 5, 1 halt 0, 0 sum 5, 0 write 5
+# kind 5 is refused, and so before row 6
+1 0 REFUSED 5 0 0: 0 sum 5
+2 0 REFUSED 5 1 0: 0 halt 0, 0 sum 5
+# the location of a sum is not asked for
+1 0 CLEAN 0 0 0: 0 sum 1024
+# the two orders are exchanged
+4 4 RACE 1 3 0: 0 fork 1, 1 sum 5, 1 halt 0, 0 read 5; 0 3 1 2; 0 1 3 2
 ",
         cells,
     )

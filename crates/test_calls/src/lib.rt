@@ -1,12 +1,14 @@
 // The calls of the judge and of the ordering call that the test program makes, and what must come of each. Nothing here calls the fast judge.
 pub mod buffers;
 pub mod chains;
+pub mod conflicts;
 pub mod drawn;
 pub mod known;
 pub mod large;
 pub mod lengths;
 pub mod lines;
 pub mod plants;
+pub mod sums;
 pub mod table;
 
 use test_cells::plus;
@@ -105,11 +107,13 @@ pub const READS: usize = 4;
 
 pub const WRITES: usize = 5;
 
-pub const EARLIEST: usize = 6;
+pub const SUMS: usize = 6;
 
-pub const LATEST: usize = 7;
+pub const EARLIEST: usize = 7;
 
-pub const DUE: usize = 8;
+pub const LATEST: usize = 8;
+
+pub const DUE: usize = 9;
 
 // A call: of the judge, or of the ordering call for p and q; how many cells it is lent; a salt for the dirt; and what must come of it, where that is told.
 pub struct Call {

@@ -11,6 +11,7 @@ use crate::RACE;
 use crate::READS;
 use crate::REFUSED;
 use crate::SECOND;
+use crate::SUMS;
 use crate::UNTOLD;
 use crate::WORKSPACE;
 use crate::WRITES;
@@ -23,6 +24,7 @@ use test_samples::events::FORK;
 use test_samples::events::HALT;
 use test_samples::events::JOIN;
 use test_samples::events::READ;
+use test_samples::events::SUM;
 use test_samples::events::WRITE;
 
 // What an unknown word is: more than a cell holds.
@@ -31,12 +33,13 @@ const UNKNOWN: usize = 65536;
 // The number of a word, by the bytes of all its letters, the first one highest.
 fn number_of(word: usize) -> usize {
     match word {
-        // read, write, fork, join, halt
+        // read, write, fork, join, halt, sum
         0x72656164 => READ,
         0x7772697465 => WRITE,
         0x666f726b => FORK,
         0x6a6f696e => JOIN,
         0x68616c74 => HALT,
+        0x73756d => SUM,
         // CLEAN, RACE, YES, NO, REFUSED, SLOW
         0x434c45414e => CLEAN,
         0x52414345 => RACE,
@@ -52,9 +55,10 @@ fn number_of(word: usize) -> usize {
         0x7773 => WORKSPACE,
         0x6669727374 => FIRST,
         0x7365636f6e64 => SECOND,
-        // reads, writes, earliest, latest, due
+        // reads, writes, sums, earliest, latest, due
         0x7265616473 => READS,
         0x777269746573 => WRITES,
+        0x73756d73 => SUMS,
         0x6561726c69657374 => EARLIEST,
         0x6c6174657374 => LATEST,
         0x647565 => DUE,

@@ -6,6 +6,7 @@ use test_calls::EARLIEST;
 use test_calls::LATEST;
 use test_calls::Plant;
 use test_calls::READS;
+use test_calls::SUMS;
 use test_calls::WRITES;
 use test_cells::more;
 use test_slow::card::Card;
@@ -14,8 +15,8 @@ use test_slow::card::card_of;
 // "1,024 records"
 const LOCATIONS: usize = 1024;
 
-// The cells that a workspace must have for cards to be read off it.
-const TABLES: usize = 4096;
+// The cells that a workspace must have for cards to be read off it. Past row 3 each has so many, and the tables of the cards are among them.
+const TABLES: usize = 12288;
 
 fn wide(x: u16) -> usize {
     x as usize
@@ -25,6 +26,7 @@ fn seen(card: cards::Card) -> Card {
     Card {
         reads: wide(card.reads),
         writes: wide(card.writes),
+        sums: wide(card.sums),
         first: wide(card.first),
         last: wide(card.last),
     }
@@ -35,6 +37,9 @@ pub fn same_card(x: Card, y: Card) -> bool {
         return false;
     }
     if x.writes != y.writes {
+        return false;
+    }
+    if x.sums != y.sums {
         return false;
     }
     if x.first != y.first {
@@ -58,6 +63,7 @@ fn expected(right: Card, l: usize, plant: Plant) -> Card {
     Card {
         reads: one_more(right.reads, here & (field == READS)),
         writes: one_more(right.writes, here & (field == WRITES)),
+        sums: one_more(right.sums, here & (field == SUMS)),
         first: one_more(right.first, here & (field == EARLIEST)),
         last: one_more(right.last, here & (field == LATEST)),
     }

@@ -1,5 +1,5 @@
-// The runs that document 01 tells, and those for the links of document 02's K2: each is answered as told where there are records enough, with its cards after
-// clean, and else refused by 16.
+// The runs that document 01 tells, and those for the links and the sums of document 02's K2 and K3: each is answered as told where there are records enough,
+// with its cards after clean, and else refused by 16.
 use crate::lending::all_answer;
 use test_calls::chains;
 use test_calls::judging;
@@ -9,6 +9,7 @@ use test_calls::known::next_run;
 use test_calls::known::read_runs;
 use test_calls::known::told;
 use test_calls::roomy;
+use test_calls::sums;
 use test_cells::get;
 use test_cells::least;
 use test_cells::more;
@@ -52,5 +53,11 @@ pub fn try_all() -> Outcome {
 pub fn try_chains() -> Outcome {
     let mut cells = [0u16; 1024];
     let count = chains::read_runs(&mut cells);
+    go_through(&cells, count)
+}
+
+pub fn try_sums() -> Outcome {
+    let mut cells = [0u16; 1024];
+    let count = sums::read_runs(&mut cells);
     go_through(&cells, count)
 }

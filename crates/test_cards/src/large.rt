@@ -30,9 +30,11 @@ fn agree(kind: u8, l: u16, records: usize, want: Reply, told: Card) -> bool {
 pub fn try_all() -> Outcome {
     let clean = make_reply(CLEAN, 0, 0, 0);
     let few = make_reply(plus(REFUSED, 16), 0, 0, 0);
-    let reads = make_card(32768, 0, 0, 32767);
-    let writes = make_card(0, 32768, 0, 32767);
+    let reads = make_card(32768, 0, 0, 0, 32767);
+    let writes = make_card(0, 32768, 0, 0, 32767);
+    let sums = make_card(0, 0, 32768, 0, 32767);
     let one = with(make_outcome(0, true), agree(0, 0, ENOUGH, clean, reads));
     let two = with(one, agree(1, 1023, ENOUGH, clean, writes));
-    with(two, agree(0, 0, less(ENOUGH), few, reads))
+    let three = with(two, agree(5, 512, ENOUGH, clean, sums));
+    with(three, agree(0, 0, less(ENOUGH), few, reads))
 }

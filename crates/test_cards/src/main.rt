@@ -2,6 +2,7 @@
 // the file `stdout`.
 mod chains;
 mod compare;
+mod conflicts;
 mod filled;
 mod known;
 mod large;
@@ -62,6 +63,15 @@ fn main() {
         return;
     }
     if !all_agree(b"runs for the links: ", known::try_chains()) {
+        return;
+    }
+    if !all_agree(b"runs for the sums: ", known::try_sums()) {
+        return;
+    }
+    if !all_agree(
+        b"pairs of kinds of access, ordered and not: ",
+        conflicts::try_all(),
+    ) {
         return;
     }
     if !all_agree(b"runs with long chains: ", chains::try_all()) {

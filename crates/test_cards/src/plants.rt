@@ -12,13 +12,13 @@ use test_cells::get;
 use test_cells::plus;
 use test_outcome::Outcome;
 
-// The events of all: race 8 10, and clean without the last, both with 1 link. Then location 5 is read once and written three times, by events 1 to 8, location 1,023 is read by
-// event 6, and no other is touched.
+// The events of all: race 9 15, and clean without the last, both with 1 link. Then location 5 is read once, written three times and added to twice, by events 1
+// to 11, location 7 is added to by the events 4, 12 and 14, location 1,023 is read by event 7, and no other is touched.
 fn lay_events(events: &mut [u16]) {
     read_table(
         b"
-0 fork 1, 1 write 5, 1 read 5, 1 write 5, 1 halt 0, 0 join 1, 0 read 1023,
-0 fork 2, 2 write 5, 2 halt 0, 0 read 5
+0 fork 1, 1 write 5, 1 read 5, 1 write 5, 1 sum 7, 1 halt 0, 0 join 1, 0 read 1023,
+0 fork 2, 2 write 5, 2 sum 5, 2 sum 5, 2 sum 7, 2 halt 0, 0 sum 7, 0 read 5
 ",
         events,
     );
@@ -31,58 +31,66 @@ fn read_plants(cells: &mut [u16]) -> usize {
     let count = read_table(
         b"
 # the answer is clean, and refused 16 0
-10 1024 CLEAN 1 0 1 none 0
-10 1024 CLEAN 0 1 1 none 0
-10 1023 REFUSED 4 0 0 none 0
-10 1023 REFUSED 16 1 0 none 0
-10 0 REFUSED 4 0 0 none 0
+15 1024 CLEAN 1 0 1 none 0
+15 1024 CLEAN 0 1 1 none 0
+15 1023 REFUSED 4 0 0 none 0
+15 1023 REFUSED 16 1 0 none 0
+15 0 REFUSED 4 0 0 none 0
 # the links of clean, of a race and of 16
-10 1024 CLEAN 0 0 0 none 0
-10 1024 CLEAN 0 0 2 none 0
-11 1024 SLOW 0 0 1 none 0
-10 1023 REFUSED 16 0 1 none 0
-# each field of a card, of the first, a middle and the last location; where none touched it, the marker
-10 1024 SLOW 0 0 0 reads 0
-10 1024 SLOW 0 0 0 writes 0
-10 1024 SLOW 0 0 0 earliest 0
-10 1024 SLOW 0 0 0 latest 0
-10 1024 SLOW 0 0 0 reads 5
-10 1024 SLOW 0 0 0 writes 5
-10 1024 SLOW 0 0 0 earliest 5
-10 1024 SLOW 0 0 0 latest 5
-10 1024 SLOW 0 0 0 reads 1023
-10 1024 SLOW 0 0 0 writes 1023
-10 1024 SLOW 0 0 0 earliest 1023
-10 1024 SLOW 0 0 0 latest 1023
-10 5000 SLOW 0 0 0 latest 1022
+15 1024 CLEAN 0 0 0 none 0
+15 1024 CLEAN 0 0 2 none 0
+16 1024 SLOW 0 0 1 none 0
+15 1023 REFUSED 16 0 1 none 0
+# each field of a card, of the first location, of one with all kinds of access, of one with sums alone, and of the last; where none touched it, the marker
+15 1024 SLOW 0 0 0 reads 0
+15 1024 SLOW 0 0 0 writes 0
+15 1024 SLOW 0 0 0 sums 0
+15 1024 SLOW 0 0 0 earliest 0
+15 1024 SLOW 0 0 0 latest 0
+15 1024 SLOW 0 0 0 reads 5
+15 1024 SLOW 0 0 0 writes 5
+15 1024 SLOW 0 0 0 sums 5
+15 1024 SLOW 0 0 0 earliest 5
+15 1024 SLOW 0 0 0 latest 5
+15 1024 SLOW 0 0 0 reads 7
+15 1024 SLOW 0 0 0 writes 7
+15 1024 SLOW 0 0 0 sums 7
+15 1024 SLOW 0 0 0 earliest 7
+15 1024 SLOW 0 0 0 latest 7
+15 1024 SLOW 0 0 0 reads 1023
+15 1024 SLOW 0 0 0 writes 1023
+15 1024 SLOW 0 0 0 sums 1023
+15 1024 SLOW 0 0 0 earliest 1023
+15 1024 SLOW 0 0 0 latest 1023
+15 5000 SLOW 0 0 0 latest 1022
 # all cards are due, and none
-10 1024 SLOW 0 0 0 due 0
-11 1024 SLOW 0 0 0 due 0
-10 1023 SLOW 0 0 0 due 0
+15 1024 SLOW 0 0 0 due 0
+16 1024 SLOW 0 0 0 due 0
+15 1023 SLOW 0 0 0 due 0
 # of the workspace after clean the first and the last cell of the tables, the next, the last that must be 0, and the first and the last that must be as it was
-10 1024 SLOW 0 0 0 ws 0
-10 1024 SLOW 0 0 0 ws 4095
-10 1024 SLOW 0 0 0 ws 4096
-10 1024 SLOW 0 0 0 ws 12297
-10 1024 SLOW 0 0 0 ws 12298
-10 1024 SLOW 0 0 0 ws 12317
+15 1024 SLOW 0 0 0 ws 0
+15 1024 SLOW 0 0 0 ws 5119
+15 1024 SLOW 0 0 0 ws 5120
+15 1024 SLOW 0 0 0 ws 12302
+15 1024 SLOW 0 0 0 ws 12303
+15 1024 SLOW 0 0 0 ws 12322
 # after a race too, and after 16 all must be as it was
-11 1024 SLOW 0 0 0 ws 0
-11 1024 SLOW 0 0 0 ws 12318
-10 1023 SLOW 0 0 0 ws 0
-10 1023 SLOW 0 0 0 ws 4095
-10 1023 SLOW 0 0 0 ws 12317
+16 1024 SLOW 0 0 0 ws 0
+16 1024 SLOW 0 0 0 ws 12323
+15 1023 SLOW 0 0 0 ws 0
+15 1023 SLOW 0 0 0 ws 5119
+15 1023 SLOW 0 0 0 ws 12322
 # of the order buffers the first and the last cell of the order, and the next; after clean and 16 all must be as it was
-11 1024 SLOW 0 0 0 first 0
-11 1024 SLOW 0 0 0 first 10
-11 1024 SLOW 0 0 0 first 11
-11 1024 SLOW 0 0 0 second 0
-11 1024 SLOW 0 0 0 second 10
-11 1024 SLOW 0 0 0 second 11
-10 1024 SLOW 0 0 0 first 0
-10 1024 SLOW 0 0 0 second 0
-10 1023 SLOW 0 0 0 first 0
-10 1023 SLOW 0 0 0 second 0
+16 1024 SLOW 0 0 0 first 0
+16 1024 SLOW 0 0 0 first 15
+16 1024 SLOW 0 0 0 first 16
+16 1024 SLOW 0 0 0 second 0
+16 1024 SLOW 0 0 0 second 15
+16 1024 SLOW 0 0 0 second 16
+15 1024 SLOW 0 0 0 first 0
+15 1024 SLOW 0 0 0 second 0
+15 1023 SLOW 0 0 0 first 0
+15 1023 SLOW 0 0 0 second 0
 ",
         cells,
     );
@@ -99,8 +107,8 @@ pub fn is_noticed(cells: &[u16], row: usize, events: &[u16]) -> bool {
 }
 
 pub fn try_all() -> Outcome {
-    let mut events = [0u16; 33];
-    let mut cells = [0u16; 400];
+    let mut events = [0u16; 48];
+    let mut cells = [0u16; 500];
     lay_events(&mut events);
     let rows = read_plants(&mut cells);
     go_through(&cells, rows, Table::Plants, &events)

@@ -1,5 +1,5 @@
-// The runs that document 01 tells, and those for the links of document 02's K2: each trace with its answer, and with both orders where they are told. Each is
-// also judged by the slow judge, and asked about every pair of positions.
+// The runs that document 01 tells, and those for the links and the sums of document 02's K2 and K3: each trace with its answer, and with both orders where they
+// are told. Each is also judged by the slow judge, and asked about every pair of positions.
 use test_calls::REFUSED;
 use test_calls::asking;
 use test_calls::chains;
@@ -14,6 +14,7 @@ use test_calls::known::told;
 use test_calls::make_reply;
 use test_calls::roomy;
 use test_calls::same_reply;
+use test_calls::sums;
 use test_cells::get;
 use test_cells::least;
 use test_cells::more;
@@ -92,9 +93,15 @@ pub fn try_chains(memory: &mut [usize]) -> Outcome {
     go_through(&cells, count, true, memory)
 }
 
+pub fn try_sums(memory: &mut [usize]) -> Outcome {
+    let mut cells = [0u16; 1024];
+    let count = sums::read_runs(&mut cells);
+    go_through(&cells, count, true, memory)
+}
+
 // That a run does not agree is noticed, whether its answer is told wrong, its links, or one of its orders.
 pub fn try_wrong(memory: &mut [usize]) -> Outcome {
-    let mut cells = [0u16; 256];
+    let mut cells = [0u16; 512];
     let count = read_wrong_runs(&mut cells);
     go_through(&cells, count, false, memory)
 }

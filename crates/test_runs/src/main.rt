@@ -1,5 +1,6 @@
 // The evidence: the judge against a slow one that stores all ancestors of all events. What it prints is held to the file `stdout`.
 mod chains;
+mod conflicts;
 mod known;
 mod large;
 mod lines;
@@ -17,7 +18,7 @@ use test_outcome::make_outcome;
 use test_outcome::print;
 use test_outcome::print_all;
 
-fn print_refusal(counts: [usize; 76], from: usize, number: usize) {
+fn print_refusal(counts: [usize; 86], from: usize, number: usize) {
     io::write_all(STDOUT_FILENO, b"  refused ");
     io::print_decimal(STDOUT_FILENO, number as u64);
     print(
@@ -26,7 +27,7 @@ fn print_refusal(counts: [usize; 76], from: usize, number: usize) {
     );
 }
 
-fn print_refusals(counts: [usize; 76], from: usize) {
+fn print_refusals(counts: [usize; 86], from: usize) {
     let mut number = 1;
     while number < 14 {
         print_refusal(counts, from, number);
@@ -34,16 +35,34 @@ fn print_refusals(counts: [usize; 76], from: usize) {
     }
 }
 
-fn print_judge(counts: [usize; 76]) {
+// The races by the kind of their earlier access, each with a later read, write and sum.
+fn print_races(counts: [usize; 86]) {
+    print_all(
+        b"    of a read with a later read, write, sum:",
+        &counts[random::READ_RACES..random::WRITE_RACES],
+    );
+    print_all(
+        b"    of a write:",
+        &counts[random::WRITE_RACES..random::SUM_RACES],
+    );
+    print_all(b"    of a sum:", &counts[random::SUM_RACES..]);
+}
+
+fn print_judge(counts: [usize; 86]) {
     print(b"  events of a trace, at most: ", test_slow::EVENTS);
     print(b"  events in all: ", count_at(counts, random::EVENTS));
+    print(b"  sums among them: ", count_at(counts, random::SUMS));
     print(b"  clean: ", count_at(counts, test_calls::CLEAN));
     print(b"  race: ", count_at(counts, test_calls::RACE));
-    print_all(b"  links, from 0 to 10:", &counts[random::LINKS..]);
+    print_races(counts);
+    print_all(
+        b"  links, from 0 to 10:",
+        &counts[random::LINKS..random::READ_RACES],
+    );
     print_refusals(counts, 0);
 }
 
-fn print_ordering(counts: [usize; 76]) {
+fn print_ordering(counts: [usize; 86]) {
     print(b"pairs of each trace: ", random::PAIRS);
     print(
         b"  yes: ",
@@ -73,6 +92,17 @@ fn try_known(memory: &mut [usize]) -> bool {
 
 fn try_chains(memory: &mut [usize]) -> bool {
     all_agree(b"runs for the links: ", known::try_chains(memory))
+}
+
+fn try_sums(memory: &mut [usize]) -> bool {
+    all_agree(b"runs for the sums: ", known::try_sums(memory))
+}
+
+fn try_conflicts(memory: &mut [usize]) -> bool {
+    all_agree(
+        b"pairs of kinds of access, ordered and not: ",
+        conflicts::try_all(memory),
+    )
 }
 
 fn try_long(memory: &mut [usize]) -> bool {
@@ -110,6 +140,12 @@ fn run(memory: &mut [usize; test_slow::MEMORY]) {
         return;
     }
     if !try_chains(memory) {
+        return;
+    }
+    if !try_sums(memory) {
+        return;
+    }
+    if !try_conflicts(memory) {
         return;
     }
     if !try_long(memory) {

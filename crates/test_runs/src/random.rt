@@ -1,16 +1,20 @@
 // Many traces at random: both judges answer each, and both ordering calls several pairs of its positions.
 use test_calls::MISMATCH;
+use test_calls::RACE;
 use test_calls::REFUSED;
 use test_calls::Reply;
 use test_calls::drawn::asking_of;
 use test_calls::drawn::sizes_of;
 use test_calls::judging;
 use test_cells::least;
+use test_cells::more;
 use test_cells::plus;
 use test_compare::compare;
 use test_samples::draws::next;
 use test_samples::draws::seed_of;
 use test_samples::draws::stream;
+use test_samples::events::SUM;
+use test_samples::events::event_at;
 use test_samples::make;
 use test_slow::Sizes;
 
@@ -18,26 +22,34 @@ pub const TRACES: usize = 10000;
 
 pub const PAIRS: usize = 4;
 
-// Counts of answers: the judge's cases from cell 0 on, the ordering call's from ORDERING on; then all the events, and from LINKS on the clean traces and races
-// by the number of their links.
+// Counts of answers: the judge's cases from cell 0 on, the ordering call's from ORDERING on; then all the events, and the sums among them; from LINKS on the
+// clean traces and races by the number of their links; then the races by their kinds: of a read with a later read, write and sum, of a write, and of a sum.
 pub const ORDERING: usize = 32;
 
 pub const EVENTS: usize = 64;
 
-pub const LINKS: usize = 65;
+pub const SUMS: usize = 65;
+
+pub const LINKS: usize = 66;
+
+pub const READ_RACES: usize = 77;
+
+pub const WRITE_RACES: usize = 80;
+
+pub const SUM_RACES: usize = 83;
 
 // The counts so far, and whether all answers agreed.
 pub struct Tally {
-    pub counts: [usize; 76],
+    pub counts: [usize; 86],
     pub agreed: bool,
 }
 
-pub fn count_at(counts: [usize; 76], i: usize) -> usize {
-    if i < 76 { counts[i] } else { 0 }
+pub fn count_at(counts: [usize; 86], i: usize) -> usize {
+    if i < 86 { counts[i] } else { 0 }
 }
 
-fn count(mut counts: [usize; 76], i: usize, more: usize) -> [usize; 76] {
-    if i < 76 {
+fn count(mut counts: [usize; 86], i: usize, more: usize) -> [usize; 86] {
+    if i < 86 {
         counts[i] = plus(counts[i], more);
     }
     counts
@@ -64,6 +76,30 @@ fn count_judged(before: Tally, reply: Reply) -> Tally {
     let one = if reply.case < REFUSED { 1 } else { 0 };
     Tally {
         counts: count(counts, plus(LINKS, reply.links), one),
+        agreed: tally.agreed,
+    }
+}
+
+// The cell of a race of accesses of these kinds.
+fn cell_of_race(one: usize, other: usize) -> usize {
+    let place = if other == SUM { 2 } else { other };
+    match one {
+        0 => plus(READ_RACES, place),
+        1 => plus(WRITE_RACES, place),
+        _ => plus(SUM_RACES, place),
+    }
+}
+
+// Counts a race by the kinds of its accesses.
+fn count_kinds(tally: Tally, events: &[u16], reply: Reply) -> Tally {
+    let counts = tally.counts;
+    let one = if reply.case == RACE { 1 } else { 0 };
+    let cell = cell_of_race(
+        event_at(events, reply.a).kind,
+        event_at(events, reply.b).kind,
+    );
+    Tally {
+        counts: count(counts, cell, one),
         agreed: tally.agreed,
     }
 }
@@ -100,9 +136,30 @@ fn judge_and_ask(
         events,
         sizes,
         stream(seed, 6),
-        count_judged(tally, reply),
+        count_kinds(count_judged(tally, reply), events, reply),
         memory,
     )
+}
+
+fn sums_of(events: &[u16], n: usize) -> usize {
+    let mut sums = 0;
+    let mut p = 0;
+    while p < n {
+        if event_at(events, p).kind == SUM {
+            sums = more(sums);
+        }
+        p += 1;
+    }
+    sums
+}
+
+// Counts the n events of a trace.
+fn count_events(tally: Tally, events: &[u16], n: usize) -> Tally {
+    let counts = tally.counts;
+    Tally {
+        counts: count(count(counts, EVENTS, n), SUMS, sums_of(events, n)),
+        agreed: tally.agreed,
+    }
 }
 
 // Makes the trace of a seed, and compares.
@@ -110,15 +167,12 @@ fn try_one(seed: usize, tally: Tally, memory: &mut [usize]) -> Tally {
     let mut events = [0u16; 12300];
     let n = make(&mut events, seed);
     let cut = least(plus(n, plus(n, n)), 12300);
-    let counts = tally.counts;
+    let counted = count_events(tally, &events, n);
     judge_and_ask(
         &events[0..cut],
         sizes_of(n, stream(seed, 5)),
         seed,
-        Tally {
-            counts: count(counts, EVENTS, n),
-            agreed: tally.agreed,
-        },
+        counted,
         memory,
     )
 }
@@ -126,7 +180,7 @@ fn try_one(seed: usize, tally: Tally, memory: &mut [usize]) -> Tally {
 // How many traces agreed, one after the other, and the counts.
 pub struct Trials {
     pub agreed: usize,
-    pub counts: [usize; 76],
+    pub counts: [usize; 86],
 }
 
 fn tried(agreed: usize, tally: Tally) -> Trials {
@@ -136,7 +190,7 @@ fn tried(agreed: usize, tally: Tally) -> Trials {
 
 pub fn try_all(memory: &mut [usize]) -> Trials {
     let mut tally = Tally {
-        counts: [0; 76],
+        counts: [0; 86],
         agreed: true,
     };
     let mut i = 0;

@@ -42,10 +42,14 @@ fn with(event: Event, kind: usize, operand: usize) -> Event {
 // The event as it meets the row of this number. `used` is the number of a task that has acted.
 fn damaged(event: Event, number: usize, used: usize, seed: usize) -> Event {
     match number {
-        5 => with(event, too_large(5, 255, seed), event.operand),
+        5 => with(event, too_large(6, 255, seed), event.operand),
         6 => make_event(0, HALT, 0),
         7 => make_event(below(seed, 1100), event.kind, event.operand),
-        8 => with(event, kind_of(8, seed), too_large(1024, 65535, next(seed))),
+        8 => with(
+            event,
+            kind_of(5, 6, seed),
+            too_large(1024, 65535, next(seed)),
+        ),
         9 => with(event, FORK, too_large(1024, 65535, seed)),
         10 => with(event, FORK, used),
         11 => with(event, JOIN, below(seed, 1100)),

@@ -4,7 +4,7 @@ use test_cells::plus;
 use test_cells::put;
 use test_cells::put_byte;
 
-// The kinds of events, with document 01's numbers.
+// The kinds of events, with the numbers of document 01 and of document 02's K3.
 pub const READ: usize = 0;
 
 pub const WRITE: usize = 1;
@@ -14,6 +14,8 @@ pub const FORK: usize = 2;
 pub const JOIN: usize = 3;
 
 pub const HALT: usize = 4;
+
+pub const SUM: usize = 5;
 
 pub struct Event {
     pub task: usize,

@@ -7,6 +7,7 @@ use crate::events::FORK;
 use crate::events::HALT;
 use crate::events::JOIN;
 use crate::events::READ;
+use crate::events::SUM;
 use crate::events::WRITE;
 use crate::events::event_at;
 use crate::events::make_event;
@@ -54,34 +55,50 @@ fn choice(shape: Shape, now: Growth) -> usize {
     READ
 }
 
-pub fn kind_of(writes: usize, seed: usize) -> usize {
-    if below(seed, 16) < writes {
-        WRITE
-    } else {
-        READ
+// The kind of an access at random: of 16 so many are writes and so many sums.
+pub fn kind_of(writes: usize, sums: usize, seed: usize) -> usize {
+    let r = below(seed, 16);
+    if r < writes {
+        return WRITE;
     }
+    if r < plus(writes, sums) {
+        return SUM;
+    }
+    READ
 }
 
 // An access at random.
 fn wild(task: usize, shape: Shape, seed: usize) -> Event {
     make_event(
         task,
-        kind_of(shape.writes, seed),
+        kind_of(shape.writes, shape.sums, seed),
         minus(1023, below(next(seed), shape.locations)),
     )
 }
 
-// An access that races with none: the location has the number of the task, or of the one that the task has just joined. Location 0 is read by all, and
-// written by task 0 while it is alone.
-fn careful(last: Event, task: usize, kind: usize, alone: bool, seed: usize) -> Event {
+// What all tasks do to location 0, in any order: they read it, or where there are sums they add to it.
+fn shared_kind(sums: usize) -> usize {
+    if sums == 0 { READ } else { SUM }
+}
+
+// An access that races with none: the location has the number of the task, or of the one that the task has just joined. Location 0 is shared by all, and task
+// 0 has any access to it while it is alone.
+fn careful(
+    last: Event,
+    task: usize,
+    kind: usize,
+    shared: usize,
+    alone: bool,
+    seed: usize,
+) -> Event {
     if last.kind == JOIN {
         return make_event(task, kind, last.operand);
     }
     if task == 0 {
-        return make_event(task, if alone { kind } else { READ }, 0);
+        return make_event(task, if alone { kind } else { shared }, 0);
     }
     if below(seed, 3) == 0 {
-        return make_event(task, READ, 0);
+        return make_event(task, shared, 0);
     }
     make_event(task, kind, task)
 }
@@ -98,7 +115,8 @@ fn access(last: Event, task: usize, shape: Shape, now: Growth) -> Event {
     careful(
         last,
         task,
-        kind_of(shape.writes, next(b)),
+        kind_of(shape.writes, shape.sums, next(b)),
+        shared_kind(shape.sums),
         now.halted == 0,
         b,
     )

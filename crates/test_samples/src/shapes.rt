@@ -12,9 +12,10 @@ pub struct Shape {
     pub joins: usize,
     // Once so many halted tasks stand in the line, all are joined.
     pub hold: usize,
-    // Accesses go to so many locations; of 16 so many are writes.
+    // Accesses go to so many locations; of 16 so many are writes and so many sums.
     pub locations: usize,
     pub writes: usize,
+    pub sums: usize,
     // 0: accesses at random. Else they race with none, but for one in so many.
     pub care: usize,
 }
@@ -29,6 +30,7 @@ fn deep(count: usize, locations: usize, care: usize) -> Shape {
         hold: 2000,
         locations,
         writes: 4,
+        sums: 0,
         care,
     }
 }
@@ -43,6 +45,7 @@ fn wide(count: usize, locations: usize, care: usize) -> Shape {
         hold: 12,
         locations,
         writes: 5,
+        sums: 0,
         care,
     }
 }
@@ -57,6 +60,7 @@ fn pipeline(count: usize, locations: usize, care: usize) -> Shape {
         hold: 2000,
         locations,
         writes: 6,
+        sums: 0,
         care,
     }
 }
@@ -71,6 +75,7 @@ fn busy(count: usize, locations: usize, care: usize) -> Shape {
         hold: 6,
         locations,
         writes: 5,
+        sums: 0,
         care,
     }
 }
@@ -108,16 +113,36 @@ fn care_of(seed: usize) -> usize {
     }
 }
 
-pub fn shape_of(seed: usize) -> Shape {
-    let a = next(seed);
-    let b = next(a);
-    let count = count_of(seed);
-    let locations = locations_of(a);
-    let care = care_of(b);
-    match below(next(b), 4) {
+fn nesting_of(count: usize, locations: usize, care: usize, seed: usize) -> Shape {
+    match below(seed, 4) {
         0 => deep(count, locations, care),
         1 => wide(count, locations, care),
         2 => pipeline(count, locations, care),
         _ => busy(count, locations, care),
     }
+}
+
+fn with_kinds(mut shape: Shape, writes: usize, sums: usize) -> Shape {
+    shape.writes = writes;
+    shape.sums = sums;
+    shape
+}
+
+// Half of the traces have no sums, a quarter has all three kinds of access. In the others many sums go unordered before one is held against a read, or
+// against a write.
+fn with_sums(shape: Shape, seed: usize) -> Shape {
+    match below(seed, 8) {
+        0 | 1 | 2 | 3 => shape,
+        4 | 5 => with_kinds(shape, shape.writes, 5),
+        6 => with_kinds(shape, 0, 15),
+        _ => with_kinds(shape, 1, 15),
+    }
+}
+
+pub fn shape_of(seed: usize) -> Shape {
+    let a = next(seed);
+    let b = next(a);
+    let c = next(b);
+    let shape = nesting_of(count_of(seed), locations_of(a), care_of(b), c);
+    with_sums(shape, next(c))
 }

@@ -1,14 +1,16 @@
-// Cards by counting: document 02's K1 taken at its word, over all events for each location.
+// Cards by counting: document 02's K1 and K3 taken at their word, over all events for each location.
 use crate::events::READ;
+use crate::events::SUM;
 use crate::events::WRITE;
 use test_cells::get;
 use test_cells::get_byte;
 use test_cells::more;
 
-// "for each location, the number of reads, the number of writes, and the first and last position that touched it"
+// "for each location, the number of reads, the number of writes, and the first and last position that touched it"; "Cards of K1 gain a count of sums."
 pub struct Card {
     pub reads: usize,
     pub writes: usize,
+    pub sums: usize,
     pub first: usize,
     pub last: usize,
 }
@@ -16,13 +18,16 @@ pub struct Card {
 // "65,535 for both where none did"
 const NOWHERE: usize = 65535;
 
-// Whether event p is of this kind, a read or a write, and its location is l.
+// Whether event p is of this kind, an access, and its location is l.
 fn accesses(kinds: &[u8], operands: &[u16], kind: usize, l: usize, p: usize) -> bool {
     (get_byte(kinds, p) == kind) & (get(operands, p) == l)
 }
 
 fn touches(kinds: &[u8], operands: &[u16], l: usize, p: usize) -> bool {
-    accesses(kinds, operands, READ, l, p) | accesses(kinds, operands, WRITE, l, p)
+    let read = accesses(kinds, operands, READ, l, p);
+    let written = accesses(kinds, operands, WRITE, l, p);
+    let summed = accesses(kinds, operands, SUM, l, p);
+    read | written | summed
 }
 
 fn count(kinds: &[u8], operands: &[u16], kind: usize, l: usize) -> usize {
@@ -64,6 +69,7 @@ pub fn card_of(kinds: &[u8], operands: &[u16], l: usize) -> Card {
     Card {
         reads: count(kinds, operands, READ, l),
         writes: count(kinds, operands, WRITE, l),
+        sums: count(kinds, operands, SUM, l),
         first: first(kinds, operands, l),
         last: last(kinds, operands, l),
     }

@@ -2,7 +2,7 @@
 use test_cells::get;
 use test_cells::get_byte;
 
-// "Kinds are 0 read, 1 write, 2 fork, 3 join, 4 halt."
+// "Kinds are 0 read, 1 write, 2 fork, 3 join, 4 halt." Document 02, K3: "Kind 5 becomes a sum".
 pub const READ: usize = 0;
 
 pub const WRITE: usize = 1;
@@ -12,6 +12,8 @@ pub const FORK: usize = 2;
 pub const JOIN: usize = 3;
 
 pub const HALT: usize = 4;
+
+pub const SUM: usize = 5;
 
 pub struct Event {
     pub kind: usize,

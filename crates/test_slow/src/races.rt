@@ -1,5 +1,7 @@
 // Races, and the two orders that a race leaves.
 use crate::events::Event;
+use crate::events::READ;
+use crate::events::SUM;
 use crate::events::WRITE;
 use crate::events::event_at;
 use crate::memory::ORDERS;
@@ -8,18 +10,32 @@ use test_cells::more;
 use test_cells::plus;
 use test_cells::put_word;
 
-// "Two accesses conflict if they have one location and at least one is a write."
+fn is_access(kind: usize) -> bool {
+    (kind == READ) | (kind == WRITE) | (kind == SUM)
+}
+
+// ".. at least one is a write."
+fn one_writes(x: usize, y: usize) -> bool {
+    (x == WRITE) | (y == WRITE)
+}
+
+// "A sum conflicts with a read and with a write of that location, and never with another sum": one is a sum, and the other is not.
+fn one_sums(x: usize, y: usize) -> bool {
+    (x == SUM) != (y == SUM)
+}
+
+// "Two accesses conflict if they have one location and .."
 fn conflict(x: Event, y: Event) -> bool {
-    if WRITE < x.kind {
+    if !is_access(x.kind) {
         return false;
     }
-    if WRITE < y.kind {
+    if !is_access(y.kind) {
         return false;
     }
     if x.operand != y.operand {
         return false;
     }
-    x.kind + y.kind != 0
+    one_writes(x.kind, y.kind) | one_sums(x.kind, y.kind)
 }
 
 // The smallest position before t that event t races with, or t. Arcs run forward, so t does not reach an earlier event.

@@ -2,7 +2,7 @@
 use crate::events::Event;
 use crate::events::FORK;
 use crate::events::Found;
-use crate::events::HALT;
+use crate::events::SUM;
 use crate::events::find;
 use crate::memory::LEFT;
 use crate::memory::PARENT;
@@ -51,7 +51,7 @@ fn join_row(memory: &[usize], event: Event) -> usize {
     0
 }
 
-// "For read and write the operand is a location, 0 to 1,023." "For halt it is 0."
+// "For read and write the operand is a location, 0 to 1,023." "a sum; its operand is a location under refusal 8." "For halt it is 0."
 fn operand_row(operand: usize, most: usize, number: usize) -> usize {
     if most < operand {
         return number;
@@ -63,14 +63,14 @@ fn operand_row(operand: usize, most: usize, number: usize) -> usize {
 fn kind_row(kinds: &[u8], operands: &[u16], memory: &[usize], event: Event, q: usize) -> usize {
     let kind = event.kind;
     match kind {
-        0 | 1 => operand_row(event.operand, 1023, 8),
+        0 | 1 | 5 => operand_row(event.operand, 1023, 8),
         2 => fork_row(kinds, operands, event.operand, q),
         3 => join_row(memory, event),
         _ => operand_row(event.operand, 0, 12),
     }
 }
 
-// The row by which event q breaks a line rule, or 0: "5, 6, 7 and the one row for its kind".
+// The row by which event q breaks a line rule, or 0: "5, 6, 7 and the one row for its kind". "Refusal 5 now begins at kind 6".
 pub fn row(
     kinds: &[u8],
     operands: &[u16],
@@ -79,7 +79,7 @@ pub fn row(
     event: Event,
     q: usize,
 ) -> usize {
-    if HALT < event.kind {
+    if SUM < event.kind {
         return 5;
     }
     if running == NOBODY {

@@ -112,6 +112,7 @@ fn malformed() {
     show(b"a leading zero", b"T0|r(V05)|1\n");
     show(b"65536", b"T0|r(V5)|65536\n");
     show(b"an unknown operation", b"T0|acq(L5)|1\n");
+    show(b"a sum, which has no line", b"T0|s(V1)|1\n");
 }
 
 fn limits() {

@@ -1,7 +1,8 @@
 -- DEMAND 3. "For every trace and every set of lent buffers: if the judge said clean, then whatever order of all the events the cores take, so long as it
 -- keeps all arcs of the task graph, each read sees the same write as in the trace itself, and each location ends with the same last write as there. If it
 -- said race s t, the first t + 1 cells of the two order buffers hold two orders of the events up to t, t included. Each keeps all arcs between those
--- events. The two are equal at every place but two, side by side, where the first has s, t and the second t, s."
+-- events. The two are equal at every place but two, side by side, where the first has s, t and the second t, s." With sums, and with what the pair changes
+-- (document 02, K3).
 -- The last declaration says it of the judge's outcome, for everything that can be lent. Assumes nothing.
 use Prim.Native.Nat.{ℕ, suc, _<_, _≤_}
 use native.Mathlib.Omega.{arith}
@@ -16,7 +17,7 @@ use Rattle.trace.specs.Line.{Checked, passes, fails, haltOperand}
 use Rattle.trace.specs.Race.{Race, InD}
 use Rattle.trace.specs.Orders.{occurrences, Order, KeepsArcs, positions, select}
 use Rattle.trace.specs.Outcome.{says, clean, race, judgement, inD?, other?, schedule, sizes, orderRoom, Outcome, firstOrder, secondOrder, judgeChecked, judgeOutcome}
-use Rattle.trace.specs.Demands.{graphOf, SameWrites, Witnesses, InPositionOrder, Scheduled, Demand3, JudgeDemand3}
+use Rattle.trace.specs.Demands.{graphOf, SameThroughout, Witnesses, InPositionOrder, Scheduled, Demand3, JudgeDemand3}
 use Rattle.trace.proofs.Tests.{by-test, either, lt-or-le, Tests, tests-map, tests-fails, tests-false, test-and, test-or, test-not, test-eq}
 use Rattle.trace.proofs.Lists.{occurrences-select-passed, occurrences-select-failed, rising-select, rising-countUp}
 use Rattle.trace.proofs.OrderFacts.{positions-order}
@@ -26,8 +27,9 @@ use Rattle.trace.proofs.Paths.{Forward}
 use Rattle.trace.proofs.Searches.{test-reach}
 use Rattle.trace.proofs.Sizes.{sized-first, refused-not-says}
 use Rattle.trace.proofs.Demand2.{demand-2}
-use Rattle.trace.proofs.SameWrites.{same-writes}
+use Rattle.trace.proofs.SameThroughout.{same-throughout}
 use Rattle.trace.proofs.WitnessOrders.{witness-orders, schedule-length}
+use Rattle.trace.proofs.PairMatters.{pair-matters}
 
 -- The computed test of D is "the events other than s and t that reach s or t".
 pub test-in-D : (tr : Trace) (graph : ℕ) → Forward tr graph → (s t p : ℕ) → Tests (inD? tr graph s t p) (InD tr graph s t p)
@@ -66,13 +68,13 @@ module _ (tr : Trace) (n : ℕ) where
   forward = graph-forward haltOperand tr n
 
   -- CLEAN.
-  pub clean-same : judgement haltOperand tr n ≡ says clean → (o : List ℕ) → Order n o → KeepsArcs tr graph n o → SameWrites tr n o
+  pub clean-same : judgement haltOperand tr n ≡ says clean → (o : List ℕ) → Order n o → KeepsArcs tr graph n o → SameThroughout tr n o
   clean-same e =
       let c = demand-2 tr n .clean-iff .0 e in
       let whole : graph ≡ n = graph-all haltOperand tr n (c .keeps-rules .line) (c .keeps-rules .reached) in
       let calm : (p q : ℕ) → Race tr graph p q → ⊥ = λ p q r. either (c .connected p q (r .conflict)) (r .not-forth) (r .not-back) in
       λ o order keeps.
-      same-writes tr n (subst (λ (m : ℕ). Forward tr m) whole forward) (λ p q r. calm p q (subst (λ (m : ℕ). Race tr m p q) (sym whole) r)) o order
+      same-throughout tr n (subst (λ (m : ℕ). Forward tr m) whole forward) (λ p q r. calm p q (subst (λ (m : ℕ). Race tr m p q) (sym whole) r)) o order
       (subst (λ (m : ℕ). KeepsArcs tr m n o) whole keeps)
 
   -- RACE.
@@ -120,15 +122,29 @@ module _ (tr : Trace) (n s t : ℕ) (e : judgement haltOperand tr n ≡ says (ra
   race-dropped = drop-at listed (drop (suc t) buffer) (suc t) (race-length tr n s t e a b)
 
 module _ (tr : Trace) (n : ℕ) (b₁ b₂ : List ℕ) where
+  abbrev a₁ : List ℕ
+  a₁ = firstOrder tr (graphOf tr n) (judgement haltOperand tr n) b₁
+
+  abbrev a₂ : List ℕ
+  a₂ = secondOrder tr (graphOf tr n) (judgement haltOperand tr n) b₂
+
+  witnesses :
+      (s t : ℕ) → judgement haltOperand tr n ≡ says (race s t) → Witnesses tr (graphOf tr n) s t (take (suc t) a₁) (take (suc t) a₂)
+  unfolding firstOrder secondOrder
+  witnesses s t e =
+      rw (e, firstOrder, secondOrder, race-taken tr n s t e s t b₁, race-taken tr n s t e t s b₂) (race-witnesses tr n s t e)
+
   pub demand-3 :
-      Demand3 tr n (judgement haltOperand tr n) b₁ b₂ (firstOrder tr (graphOf tr n) (judgement haltOperand tr n) b₁)
-      (secondOrder tr (graphOf tr n) (judgement haltOperand tr n) b₂)
+      Demand3 tr n (judgement haltOperand tr n) b₁ b₂ a₁ a₂
   unfolding firstOrder secondOrder
   demand-3 =
       record {
         when-clean = clean-same tr n;
-        when-race = λ s t e.
-            rw (e, firstOrder, secondOrder, race-taken tr n s t e s t b₁, race-taken tr n s t e t s b₂) (race-witnesses tr n s t e);
+        when-race = witnesses;
+        pair-matters = λ s t e.
+            let w = witnesses s t e in
+            pair-matters tr (graphOf tr n) s t (suc t) (take (suc t) a₁) (take (suc t) a₂) (demand-2 tr n .race-iff s t .0 e .pair) (w .order₁)
+            (w .swapped);
         holds₁ = λ s t e. rw (e, firstOrder, race-taken tr n s t e s t b₁) (race-scheduled tr n s t e s t);
         holds₂ = λ s t e. rw (e, secondOrder, race-taken tr n s t e t s b₂) (race-scheduled tr n s t e t s);
         unchanged₁ = λ s t e. rw (e, firstOrder) (race-dropped tr n s t e s t b₁);
@@ -149,6 +165,7 @@ module _ (kinds tasks operands workspace first second : List ℕ) where
       record {
         when-clean = λ e. absurd (refused-not-says refl e);
         when-race = λ s t e. absurd (refused-not-says refl e);
+        pair-matters = λ s t e. absurd (refused-not-says refl e);
         holds₁ = λ s t e. absurd (refused-not-says refl e);
         holds₂ = λ s t e. absurd (refused-not-says refl e);
         unchanged₁ = λ s t e. refl;

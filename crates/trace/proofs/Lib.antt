@@ -21,12 +21,12 @@ pub mod Chains
 pub mod Sizes
 pub mod Demand2
 pub mod OrderingCall
-pub mod SameWrites
+pub mod SameThroughout
 pub mod WitnessOrders
+pub mod PairMatters
 pub mod Demand3
 pub mod Demand1
 pub mod DemandsDecide
-pub mod PairMatters
 pub mod LaterEvents
 pub mod Table
 pub mod Slices

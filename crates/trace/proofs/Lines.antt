@@ -4,8 +4,8 @@ use mathlib.Core.Path.{_≡_, refl, sym, ap, _∙_}
 use mathlib.Core.Bool.{Bool, true, false, cond}
 use native.Mathlib.Omega.{arith}
 use lib.Dec.{eqb}
-use borrow.Author.Tests.{leb-false}
-use Rattle.trace.specs.Trace.{Trace, FORK, JOIN, isAccess, LOCATIONS}
+use borrow.Author.Tests.{not-false, leb-false}
+use Rattle.trace.specs.Trace.{Trace, FORK, JOIN, isKind, isAccess, LOCATIONS}
 use Rattle.trace.specs.Line.{Line, Checked, passes, fails, row, start, haltOperand, stepByKind, step, stepAfter, lineAfter}
 use Rattle.trace.specs.Graph.{isPassed, graphEvents}
 use Rattle.trace.specs.Demands.{KeepsRules, BreaksFirst, graphOf}
@@ -143,6 +143,14 @@ module _ (haltRule : Line → ℕ) (tr : Trace) where
       let five = row-passes 5 _ _ _ (sym (line-more p (before .0) (before .1)) ∙ after .1) in
       let seven = row-passes 7 _ _ _ (row-passes 6 _ _ _ (five .1) .1) in
       leb-false LOCATIONS (tr .operand p) (row-passes 8 _ _ _ (rw access at (seven .1)) .0)
+
+  -- An event that keeps the rules is of a kind that the documents name.
+  pub named : (n : ℕ) (line : Line) → lineAfter haltRule tr n ≡ passes line → (p : ℕ) → p < n → isKind (tr .kind p) ≡ true
+  unfolding step
+  named n line e p h =
+      let before = passes-earlier p n line (omega arith) e in
+      let after = passes-earlier (suc p) n line (omega arith) e in
+      not-false _ (row-passes 5 _ _ _ (sym (line-more p (before .0) (before .1)) ∙ after .1) .0)
 
 -- ---- the first event that breaks a rule
 

@@ -1,21 +1,21 @@
 -- What the definitions of `Orders` mean, said another way, for a reader who doubts them: an order of n events has n entries; what stands before an
 -- event are the entries with a lower place; what a read sees is the latest write to its location among these, or none where there is none;
--- a location's last write is the latest write to it, or none where there is none; and the trace's own order is an order that keeps all arcs.
--- Assumes nothing.
+-- a location's last write is the latest write to it, or none where there is none; the sums since are those that stand after its last write, or all where there
+-- is none; and the trace's own order is an order that keeps all arcs. Assumes nothing.
 use Prim.Native.Nat.{ℕ, zero, suc, _+_, _<_, _≤_}
 use native.Mathlib.Omega.{arith}
 use mathlib.Core.Path.{_≡_, refl, sym, ap, _∙_}
-use mathlib.Core.Logic.{_↔_}
+use mathlib.Core.Logic.{_⊎_, inl, inr, _↔_, _≢_}
 use mathlib.Core.Bool.{Bool, true, true≢false}
 use mathlib.Core.List.{List, [], _∷_}
 use mathlib.Core.Option.{none, some}
 use lib.ListN.{length}
-use Rattle.trace.specs.Trace.{Trace, WRITE}
-use Rattle.trace.specs.Orders.{occurrences, Order, place, KeepsArcs, positions, before, writes, lastWrite, sees}
+use Rattle.trace.specs.Trace.{Trace, WRITE, SUM}
+use Rattle.trace.specs.Orders.{occurrences, Order, place, KeepsArcs, positions, before, latest, writes, sums, lastWrite, SumSince, sees}
 use Rattle.trace.proofs.Tests.{Tests, by-test, either, same-or-not, lt-or-le, test-and, test-eq}
 use Rattle.trace.proofs.Paths.{Forward}
 use Rattle.trace.proofs.Lists.{oneIf-same, oneIf-other, occurrences-before-le, occurrences-countUp-inside, occurrences-countUp-above}
-use Rattle.trace.proofs.Lists.{place-lt-of-before, before-of-place-lt, place-before, rising-place, rising-countUp}
+use Rattle.trace.proofs.Lists.{place-injective, place-lt-of-before, before-of-place-lt, place-before, rising-place, rising-countUp}
 use Rattle.trace.proofs.Lists.{Last, latest-some-iff, latest-none-iff}
 
 -- ---- the entries of an order
@@ -90,6 +90,16 @@ before-iff p r o = (place-lt-of-before p r o, before-of-place-lt p r o)
 pub test-writes : (tr : Trace) (l p : ℕ) → Tests (writes tr l p) ((tr .kind p ≡ WRITE) × (tr .operand p ≡ l))
 unfolding writes
 test-writes tr l p = test-and _ _ (test-eq (tr .kind p) WRITE) (test-eq (tr .operand p) l)
+
+-- It adds to a location exactly if it is a sum and the location is its operand.
+pub test-sums : (tr : Trace) (l p : ℕ) → Tests (sums tr l p) ((tr .kind p ≡ SUM) × (tr .operand p ≡ l))
+unfolding sums
+test-sums tr l p = test-and _ _ (test-eq (tr .kind p) SUM) (test-eq (tr .operand p) l)
+
+-- No event does both.
+pub sum-no-write : (tr : Trace) (l u w : ℕ) → sums tr l u ≡ true → writes tr l w ≡ true → w ≢ u
+sum-no-write tr l u w sum write same =
+    omega (arith, test-sums tr l u .0 sum .0, test-writes tr l w .0 write .0, ap (tr .kind) same)
 
 -- In the order o, w writes the location of r and comes earlier than r.
 pub record EarlierWrite (tr : Trace) (o : List ℕ) (r w : ℕ) : Type 0 where
@@ -194,6 +204,60 @@ module _ (tr : Trace) (n : ℕ) (o : List ℕ) (order : Order n o) (l : ℕ) whe
       let none-passed = latest-none-iff (writes tr l) o in (
         λ e w h. let found = from-write w h in true≢false (sym (found .0) ∙ none-passed .0 e w (found .1)),
         λ h. none-passed .1 (λ w c. by-test (writes tr l w) (λ e. absurd (h w (to-write w e c))) (λ e. e)),
+      )
+
+-- ---- the sums since
+
+module _ (tr : Trace) (o : List ℕ) (once : (p : ℕ) → occurrences p o ≤ 1) (l u : ℕ) where
+  -- Where the location has a last write, they are its sums that stand after that write;
+  pub sums-after-write :
+      (w : ℕ) → lastWrite tr o l ≡ some w
+      → SumSince tr o l u ↔ ((sums tr l u ≡ true) × (0 < occurrences u o) × (place w o < place u o))
+  sums-after-write w e =
+      let last = latest-some-iff (writes tr l) o once w .0 e in (
+        λ h. (h .sum, h .listed, h .after-writes w (last .passed) (last .entry)),
+        λ h.
+            let after = h .2 in
+            record { sum = h .0; listed = h .1; after-writes = λ v write listed. omega (arith, last .none-later v write listed) },
+      )
+
+  -- where it has none, all its sums.
+  pub sums-no-write : lastWrite tr o l ≡ none → SumSince tr o l u ↔ ((sums tr l u ≡ true) × (0 < occurrences u o))
+  sums-no-write e = (
+    λ h. (h .sum, h .listed),
+    λ h.
+        record {
+          sum = h .0;
+          listed = h .1;
+          after-writes = λ w write listed. absurd (true≢false (sym write ∙ latest-none-iff (writes tr l) o .0 e w listed));
+        },
+  )
+
+  -- A sum is one of them exactly if it is the latest of the location's writes and itself.
+  pub since-latest :
+      sums tr l u ≡ true → (test : ℕ → Bool) → ((p : ℕ) → Tests (test p) ((writes tr l p ≡ true) ⊎ (p ≡ u)))
+      → SumSince tr o l u ↔ (latest test o ≡ some u)
+  since-latest sum test tests =
+      let last = latest-some-iff test o once u in (
+        λ h.
+            last .1
+            (record {
+              passed = tests u .1 (inr refl);
+              entry = h .listed;
+              none-later = λ p passed listed.
+                  either (tests p .0 passed) (λ write. omega (arith, h .after-writes p write listed))
+                  (λ same. omega (arith, ap (λ (z : ℕ). place z o) same));
+            }),
+        λ e.
+            let h = last .0 e in
+            record {
+              sum = sum;
+              listed = h .entry;
+              after-writes = λ w write listed.
+                  let no-later = h .none-later w (tests w .1 (inl write)) listed in
+                  let apart : place w o ≢ place u o = λ same. sum-no-write tr l u w sum write (place-injective w u o listed same) in
+                  omega arith;
+            },
       )
 
 -- ---- the trace's own order

@@ -1,35 +1,65 @@
--- Why the pair of a race matters: between the two orders that demand 3 promises, the last writes right after the pair differ where both of the pair
--- write, and what the read of the pair sees differs where one reads. The last declaration says it of the judge's own order buffers. Assumes nothing.
+-- Why the pair of a race matters: between the two orders that demand 3 promises, what the location holds right after the pair differs where neither of the
+-- pair reads (of two writes the last, of a write and a sum whether the sum stands after it), and what the read of the pair sees differs where one reads.
+-- Assumes nothing.
 use Prim.Native.Nat.{ℕ, suc, _+_, _<_, _≤_}
 use native.Mathlib.Omega.{arith}
 use mathlib.Core.Path.{_≡_, refl, sym, ap, _∙_}
-use mathlib.Core.Logic.{_≢_}
+use mathlib.Core.Logic.{_≢_, inl, inr}
 use mathlib.Core.Bool.{true}
 use mathlib.Core.List.{List, [], _∷_, _++_, append-nil}
 use mathlib.Core.Option.{some, Option·some-injective}
 use lib.ListN.{length, getD, take, drop}
 use lib.Seq.{split-at, drop-cons, append-snoc, take-append-add, length-take-le, ext-getD}
 use borrow.Author.Tests.{eq-eqb, ne-eqb}
-use Rattle.trace.specs.Trace.{Trace, traceOf, READ}
+use Rattle.trace.specs.Trace.{Trace, READ}
 use Rattle.trace.specs.Graph.{here}
 use Rattle.trace.specs.Race.{Race}
-use Rattle.trace.specs.Orders.{occurrences, Order, before, writes, lastWrite, sees}
-use Rattle.trace.specs.Outcome.{says, race, Outcome, judgeOutcome}
-use Rattle.trace.specs.Demands.{graphOf, Swapped, PairMatters}
+use Rattle.trace.specs.Orders.{occurrences, Order, before, writes, sums, lastWrite, SumSince, HeldDiffers, SeenDiffers}
+use Rattle.trace.specs.Demands.{Swapped, PairMatters}
 use Rattle.trace.proofs.Tests.{either, same-or-not}
-use Rattle.trace.proofs.Lists.{oneIf-same, occurrences-append, before-append, latest-passed, latest-append-passed}
-use Rattle.trace.proofs.OrderFacts.{order-at-most-once, test-writes}
-use Rattle.trace.proofs.Conflicts.{ConflictCase, both-write, first-reads, second-reads, conflict-cases}
-use Rattle.trace.proofs.Sizes.{says-sized}
-use Rattle.trace.proofs.Demand2.{judge-demand-2}
-use Rattle.trace.proofs.Demand3.{judge-demand-3}
+use Rattle.trace.proofs.Lists.{oneIf-same, oneIf-other, occurrences-append, before-append, latest-passed, latest-append-passed}
+use Rattle.trace.proofs.Lists.{place-lt-length, place-append-left, place-append-right}
+use Rattle.trace.proofs.OrderFacts.{order-at-most-once, test-writes, test-sums, sum-no-write}
+use Rattle.trace.proofs.Conflicts.{Changes, ConflictCase, first-reads, second-reads, both-write, first-sums, second-sums, conflict-cases}
 use Rattle.trace.proofs.WitnessOrders.{append-swapped, append-swapped-at}
 
 -- ---- before the pair D, after it the rest
 
--- A read is no write.
-read-not-write : (tr : Trace) (l p : ℕ) → tr .kind p ≡ READ → writes tr l p ≡ true → ⊥
-read-not-write tr l p read write = let kind = test-writes tr l p .0 write .0 in omega arith
+-- What changes a location does not read it.
+change-no-read : (tr : Trace) (l p : ℕ) → Changes tr l p → tr .kind p ≢ READ
+change-no-read tr l p (inl write) read = omega (arith, test-writes tr l p .0 write .0)
+change-no-read tr l p (inr sum) read = omega (arith, test-sums tr l p .0 sum .0)
+
+-- Where neither of the pair reads, what their location holds decides.
+neither-reads :
+    {at : ℕ} (tr : Trace) (s t : ℕ) (o₁ o₂ : List ℕ) → Changes tr (tr .operand s) s → Changes tr (tr .operand s) t
+    → HeldDiffers tr (take (at + 2) o₁) (take (at + 2) o₂) (tr .operand s) → PairMatters tr s t at o₁ o₂
+neither-reads tr s t o₁ o₂ change-s change-t differs =
+    record {
+      held-differs = λ ks kt. differs;
+      seen-differs = λ r w read.
+          absurd
+          (either w (λ e. change-no-read tr (tr .operand s) s change-s (rw e at read))
+          (λ e. change-no-read tr (tr .operand s) t change-t (rw e at read)));
+    }
+
+-- Either way round.
+differs-sym : (tr : Trace) (o o′ : List ℕ) (l : ℕ) → HeldDiffers tr o o′ l → HeldDiffers tr o′ o l
+differs-sym tr o o′ l (inl d) = inl (λ e. d (sym e))
+differs-sym tr o o′ l (inr d) = inr (d .0, λ m. d .1 (m .1, m .0))
+
+-- A sum at the end of a list is in the set of sums.
+sum-last : (tr : Trace) (l u : ℕ) (xs : List ℕ) → sums tr l u ≡ true → occurrences u xs ≡ 0 → SumSince tr (xs ++ (u ∷ [])) l u
+sum-last tr l u xs sum fresh =
+    record {
+      sum = sum;
+      listed = omega (arith, occurrences-append u xs (u ∷ []), oneIf-same u u refl);
+      after-writes = λ w write listed.
+          let other : u ≢ w = λ e. sum-no-write tr l u w sum write (sym e) in
+          let in-xs : 0 < occurrences w xs = omega (arith, occurrences-append w xs (u ∷ []), oneIf-other u w other) in
+          omega
+          (arith, place-append-left w xs (u ∷ []) in-xs, place-lt-length w xs in-xs, place-append-right u xs (u ∷ []) fresh);
+    }
 
 module _ (D rest : List ℕ) where
   before-first : (a b : ℕ) → occurrences a D ≡ 0 → before a (D ++ (a ∷ b ∷ rest)) ≡ D
@@ -38,51 +68,88 @@ module _ (D rest : List ℕ) where
   before-second : (a b : ℕ) → a ≢ b → occurrences b D ≡ 0 → before b (D ++ (a ∷ b ∷ rest)) ≡ D ++ (a ∷ [])
   before-second a b other c = before-append b D (a ∷ b ∷ rest) c ∙ rw (ne-eqb a b other, eq-eqb b b refl)
 
-  -- A read r sees the write w of its location where w stands right before it, and not where w stands right after it.
-  read-differs :
-      (tr : Trace) (r w : ℕ) → w ≢ r → occurrences r D ≡ 0 → occurrences w D ≡ 0 → writes tr (tr .operand r) w ≡ true
-      → sees tr (D ++ (r ∷ w ∷ rest)) r ≢ sees tr (D ++ (w ∷ r ∷ rest)) r
-  read-differs tr r w other cr cw write same =
-      let first : lastWrite tr D (tr .operand r) ≡ some w =
-      ap (λ (z : List ℕ). lastWrite tr z (tr .operand r)) (sym (before-first r w cr))
-      ∙ same
-      ∙ ap (λ (z : List ℕ). lastWrite tr z (tr .operand r)) (before-second w r other cr)
-      ∙ latest-append-passed (writes tr (tr .operand r)) D w write in
-      omega (arith, latest-passed (writes tr (tr .operand r)) D w first .1)
+  -- With a change of the location at the end of D it holds something different.
+  change-differs : (tr : Trace) (l w : ℕ) → occurrences w D ≡ 0 → Changes tr l w → HeldDiffers tr D (D ++ (w ∷ [])) l
+  change-differs tr l w fresh (inl write) =
+      inl (λ same. omega (arith, latest-passed (writes tr l) D w (same ∙ latest-append-passed (writes tr l) D w write) .1))
+  change-differs tr l w fresh (inr sum) =
+      inr (w, λ same. let listed = same .1 (sum-last tr l w D sum fresh) .listed in omega arith)
 
-  -- Right after a pair whose second event is a write, that write is the last.
-  last-of-pair :
-      (tr : Trace) (l a b : ℕ) → writes tr l b ≡ true → lastWrite tr (take (length D + 2) (D ++ (a ∷ b ∷ rest))) l ≡ some b
+  -- So a read r sees something different where a change w of its location stands right before it, and where it stands right after it.
+  read-differs :
+      (tr : Trace) (l r w : ℕ) → w ≢ r → occurrences r D ≡ 0 → occurrences w D ≡ 0 → tr .operand r ≡ l → Changes tr l w
+      → SeenDiffers tr (D ++ (r ∷ w ∷ rest)) (D ++ (w ∷ r ∷ rest)) r
+  read-differs tr l r w other cr cw location change =
+      rw (before-first r w cr, before-second w r other cr, location) (change-differs tr l w cw change)
+
+  -- The entries up to the pair, it included.
+  with-pair : (a b : ℕ) → take (length D + 2) (D ++ (a ∷ b ∷ rest)) ≡ (D ++ (a ∷ [])) ++ (b ∷ [])
+  with-pair a b = take-append-add D (a ∷ b ∷ rest) 2 ∙ sym (append-snoc D a (b ∷ []))
+
+  -- Right after a pair whose second event is a write, that write is the last;
+  last-of-pair : (tr : Trace) (l a b : ℕ) → writes tr l b ≡ true → lastWrite tr (take (length D + 2) (D ++ (a ∷ b ∷ rest))) l ≡ some b
   last-of-pair tr l a b write =
-      ap (λ (z : List ℕ). lastWrite tr z l) (take-append-add D (a ∷ b ∷ rest) 2 ∙ sym (append-snoc D a (b ∷ [])))
-      ∙ latest-append-passed (writes tr l) (D ++ (a ∷ [])) b write
+      ap (λ (z : List ℕ). lastWrite tr z l) (with-pair a b) ∙ latest-append-passed (writes tr l) (D ++ (a ∷ [])) b write
+
+  -- so of two writes the last one differs,
+  writes-differ :
+      (tr : Trace) (l s t : ℕ) → s ≢ t → writes tr l s ≡ true → writes tr l t ≡ true
+      → HeldDiffers tr (take (length D + 2) (D ++ (s ∷ t ∷ rest))) (take (length D + 2) (D ++ (t ∷ s ∷ rest))) l
+  writes-differ tr l s t other write-s write-t =
+      inl
+      (λ same. other (sym (Option·some-injective t s (sym (last-of-pair tr l s t write-t) ∙ same ∙ last-of-pair tr l t s write-s))))
+
+  -- and a sum is in the set only where it stands after the write.
+  sum-differs :
+      (tr : Trace) (l w u : ℕ) → occurrences w D ≡ 0 → occurrences u D ≡ 0 → writes tr l w ≡ true → sums tr l u ≡ true
+      → HeldDiffers tr (take (length D + 2) (D ++ (w ∷ u ∷ rest))) (take (length D + 2) (D ++ (u ∷ w ∷ rest))) l
+  sum-differs tr l w u cw cu write sum =
+      let other = sum-no-write tr l u w sum write in
+      let fresh : occurrences u (D ++ (w ∷ [])) ≡ 0 = omega (arith, occurrences-append u D (w ∷ []), oneIf-other w u other) in
+      let fresh′ : occurrences w (D ++ (u ∷ [])) ≡ 0 =
+      omega (arith, occurrences-append w D (u ∷ []), oneIf-other u w (λ e. other (sym e))) in
+      let in-D : 0 < occurrences u (D ++ (u ∷ [])) = omega (arith, occurrences-append u D (u ∷ []), oneIf-same u u refl) in
+      rw (with-pair w u, with-pair u w)
+      (inr (
+        u,
+        λ same.
+            let since = same .0 (sum-last tr l u (D ++ (w ∷ [])) sum fresh) in
+            let listed = occurrences-append w (D ++ (u ∷ [])) (w ∷ []) in
+            let after = since .after-writes w write (omega (arith, oneIf-same w w refl)) in
+            omega (
+              arith,
+              place-append-right w (D ++ (u ∷ [])) (w ∷ []) fresh′,
+              place-append-left u (D ++ (u ∷ [])) (w ∷ []) in-D,
+              place-lt-length u (D ++ (u ∷ [])) in-D,
+            ),
+      ))
 
   by-case :
-      (tr : Trace) (s t : ℕ) → s ≢ t → occurrences s D ≡ 0 → occurrences t D ≡ 0 → ConflictCase tr s t
-      → PairMatters tr s t (length D) (D ++ (s ∷ t ∷ rest)) (D ++ (t ∷ s ∷ rest))
-  by-case tr s t other cs ct (both-write write-s write-t) =
-      let l = tr .operand s in
+      (tr : Trace) (s t : ℕ) → s ≢ t → occurrences s D ≡ 0 → occurrences t D ≡ 0 → tr .operand t ≡ tr .operand s
+      → ConflictCase tr (tr .operand s) s t → PairMatters tr s t (length D) (D ++ (s ∷ t ∷ rest)) (D ++ (t ∷ s ∷ rest))
+  by-case tr s t other cs ct location (first-reads read-s change-t) =
       record {
-        last-writes-differ = λ ks kt same.
-            other (sym (Option·some-injective t s (sym (last-of-pair tr l s t write-t) ∙ same ∙ last-of-pair tr l t s write-s)));
+        held-differs = λ ks kt. absurd (ks read-s);
         seen-differs = λ r w read.
-            absurd
-            (either w (λ e. read-not-write tr l r read (rw e write-s)) (λ e. read-not-write tr l r read (rw e write-t)));
+            either w (λ e. rw e (read-differs tr (tr .operand s) s t (λ q. other (sym q)) cs ct refl change-t))
+            (λ e. absurd (change-no-read tr (tr .operand s) t change-t (rw e at read)));
       }
-  by-case tr s t other cs ct (first-reads read-s write-t) =
+  by-case tr s t other cs ct location (second-reads change-s read-t) =
       record {
-        last-writes-differ = λ ks kt. absurd (omega arith);
+        held-differs = λ ks kt. absurd (kt read-t);
         seen-differs = λ r w read.
-            either w (λ e. rw e (read-differs tr s t (λ q. other (sym q)) cs ct write-t))
-            (λ e. absurd (read-not-write tr (tr .operand s) r read (rw e write-t)));
+            either w (λ e. absurd (change-no-read tr (tr .operand s) s change-s (rw e at read)))
+            (λ e. rw e (differs-sym tr _ _ _ (read-differs tr (tr .operand s) t s other ct cs location change-s)));
       }
-  by-case tr s t other cs ct (second-reads write-s read-t) =
-      record {
-        last-writes-differ = λ ks kt. absurd (omega arith);
-        seen-differs = λ r w read.
-            either w (λ e. absurd (read-not-write tr (tr .operand t) r read (rw e write-s)))
-            (λ e. rw e (λ same. read-differs tr t s other ct cs write-s (sym same)));
-      }
+  by-case tr s t other cs ct location (both-write write-s write-t) =
+      neither-reads tr s t (D ++ (s ∷ t ∷ rest)) (D ++ (t ∷ s ∷ rest)) (inl write-s) (inl write-t)
+      (writes-differ tr (tr .operand s) s t other write-s write-t)
+  by-case tr s t other cs ct location (first-sums sum-s write-t) =
+      neither-reads tr s t (D ++ (s ∷ t ∷ rest)) (D ++ (t ∷ s ∷ rest)) (inr sum-s) (inl write-t)
+      (differs-sym tr _ _ _ (sum-differs tr (tr .operand s) t s ct cs write-t sum-s))
+  by-case tr s t other cs ct location (second-sums write-s sum-t) =
+      neither-reads tr s t (D ++ (s ∷ t ∷ rest)) (D ++ (t ∷ s ∷ rest)) (inl write-s) (inr sum-t)
+      (sum-differs tr (tr .operand s) s t cs ct write-s sum-t)
 
 -- ---- two lists that differ in the places of s and t have this form
 
@@ -137,7 +204,7 @@ form-matters tr graph s t m at o₁ o₂ racing order form =
     omega (arith, order-at-most-once m o₁ order p, ap (occurrences p) (form .first), occurrences-append p (form .D) pair) in
     rw (form .first, form .second, ← form .pair-place)
     (by-case (form .D) (form .rest) tr s t other (omega (arith, once s, oneIf-same s s refl))
-    (omega (arith, once t, oneIf-same t t refl)) (conflict-cases tr graph (racing .conflict)))
+    (omega (arith, once t, oneIf-same t t refl)) (sym (racing .conflict .one-location)) (conflict-cases tr graph (racing .conflict)))
 
 -- For a race s t and two orders as demand 3 promises them, the second the first with the pair swapped.
 pub pair-matters :
@@ -145,23 +212,3 @@ pub pair-matters :
     → PairMatters tr s t (swap .at) o₁ o₂
 pair-matters tr graph s t m o₁ o₂ racing order swap =
     form-matters tr graph s t m (swap .at) o₁ o₂ racing order (swapped-form s t o₁ o₂ swap)
-
--- The pair of a race that the judge names matters in the two orders that the judge leaves in the order buffers.
-module _ (kinds tasks operands workspace first second : List ℕ) where
-  abbrev lent : Trace
-  lent = traceOf kinds tasks operands
-
-  abbrev out : Outcome
-  out = judgeOutcome kinds tasks operands workspace first second
-
-  pub judge-pair-matters :
-      (s t : ℕ) (said : out .answer ≡ says (race s t))
-      → PairMatters lent s t (judge-demand-3 kinds tasks operands workspace first second .when-race s t said .swapped .at)
-      (take (suc t) (out .first)) (take (suc t) (out .second))
-  judge-pair-matters s t said =
-      let passed = says-sized kinds tasks operands workspace first second said in
-      let n : ℕ = passed .0 in
-      let orders = judge-demand-3 kinds tasks operands workspace first second .when-race s t said in
-      let is-race = judge-demand-2 kinds tasks operands workspace first second .past-sizes n (passed .1) .race-iff s t .0 said in
-      pair-matters lent (graphOf lent n) s t (suc t) (take (suc t) (out .first)) (take (suc t) (out .second)) (is-race .pair) (orders .order₁)
-      (orders .swapped)

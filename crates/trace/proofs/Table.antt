@@ -1,5 +1,6 @@
--- The † runs of document 01, those that tell a judge that deceives, those that tell another table of joins, and the examples of the table of refusals are judged
--- as the documents say: one computed fact about each table. Row 13, which is the ordering call's, has the fact after them; then what each case of the code's answers says. Assumes nothing.
+-- The † runs of document 01, those that tell a judge that deceives, those that tell another rule for sums or another table of joins, and the examples of the
+-- table of refusals are judged as the documents say: one computed fact about each table. Row 13, which is the ordering call's, has the fact after them; then
+-- what each case of the code's answers says. Assumes nothing.
 use Prim.Native.Nat.{ℕ, _+_}
 use mathlib.Core.Path.{_≡_, refl}
 use mathlib.Core.Bool.{true, false}
@@ -19,7 +20,7 @@ use Rattle.trace.specs.Outcome.{says, refused, clean, race, Outcome, orE
 use Rattle.trace.specs.Outcome.{inD?, sizes, orderRoom, cleared, lookedAt, linksBeside, firstOrder, secondOrder, judgeChecked, judgeOutcome}
 use Rattle.trace.specs.Outcome.{orderingSaid, ordering, orderingChecked, orderingOutcome}
 use Rattle.trace.specs.Answers.{judgeReply, judgeLinks, orderingReply}
-use Rattle.trace.specs.Runs.{Example, runs, deceivers, chains, lentFor, judged, expected}
+use Rattle.trace.specs.Runs.{Example, runs, deceivers, counters, chains, lentFor, judged, expected}
 use Rattle.trace.specs.Refusals.{cells, sizeExamples, examples}
 
 -- Every definition that `judged` computes by: to unfold this one is to unfold them all.
@@ -40,6 +41,11 @@ runs-as-expected = refl
 pub deceivers-as-expected : map judged deceivers ≡ map expected deceivers
 unfolding computed deceivers expected
 deceivers-as-expected = refl
+
+-- The runs that tell another rule for sums.
+pub counters-as-expected : map judged counters ≡ map expected counters
+unfolding computed counters expected
+counters-as-expected = refl
 
 -- The runs that tell another table of joins.
 pub chains-as-expected : map judged chains ≡ map expected chains
@@ -68,7 +74,7 @@ beyond-as-expected = refl
 
 -- "Refusal 13 comes after all others": where event 0 has no known kind and neither p nor q is an event.
 pub broken-as-expected :
-    orderingOutcome (5 ∷ []) (0 ∷ []) (0 ∷ []) (lentFor 1 (WORKSPACE-CELLS + 1)) 1 1
+    orderingOutcome (6 ∷ []) (0 ∷ []) (0 ∷ []) (lentFor 1 (WORKSPACE-CELLS + 1)) 1 1
     ≡ record { answer = refused 5 0; workspace = replicate (WORKSPACE-CELLS + 1) 0 ++ (9 ∷ []) }
 unfolding computed orderingSaid ordering orderingChecked orderingOutcome
 broken-as-expected = refl

@@ -6,8 +6,8 @@ use mathlib.Core.Bool.{Bool, true, false, cond, not, _&&_, _||_, true≢false, f
 use mathlib.Core.Option.{Option, none, some}
 use mathlib.Core.Logic.{_⊎_, inl, inr, _≢_, _↔_}
 use native.Mathlib.Omega.{arith}
-use lib.Dec.{eqb, ltb}
-use borrow.Author.Tests.{eqb-true, eqb-false, eq-eqb, ltb-true, ltb-false, lt-ltb}
+use lib.Dec.{eqb, leb, ltb}
+use borrow.Author.Tests.{eqb-true, eqb-false, eq-eqb, leb-true, le-leb, ltb-true, ltb-false, lt-ltb}
 use Rattle.trace.specs.Orders.{orThis}
 use Rattle.trace.specs.Search.{someBelow, leastBelow, greatestBelow}
 
@@ -59,6 +59,9 @@ test-eq a b = (eqb-true a b, eq-eqb a b)
 
 pub test-lt : (a b : ℕ) → Tests (ltb a b) (a < b)
 test-lt a b = (ltb-true a b, lt-ltb a b)
+
+pub test-le : (a b : ℕ) → Tests (leb a b) (a ≤ b)
+test-le a b = (leb-true a b, le-leb a b)
 
 -- a test is the fact that it is true
 pub test-self : (b : Bool) → Tests b (b ≡ true)

@@ -1,16 +1,16 @@
--- The owner's demands 1, 2 and 3, as records that a contract can cite; what the ordering call's answer says, and the number beside the judge's; and why a
--- race matters. Assumes nothing.
+-- The owner's demands 1, 2 and 3, as records that a contract can cite; what the ordering call's answer says, and the number beside the judge's. Assumes
+-- nothing.
 use Prim.Native.Nat.{ℕ, suc, _+_, _<_, _≤_}
 use mathlib.Core.Path.{_≡_}
 use mathlib.Core.Bool.{Bool, true, false}
 use mathlib.Core.List.{List, _∷_, _++_}
 use mathlib.Core.Logic.{_⊎_, _↔_, _≢_}
 use lib.ListN.{length, getD, take, drop}
-use Rattle.trace.specs.Trace.{Trace, traceOf, READ, WRITE, TASKS, WORKSPACE-CELLS}
+use Rattle.trace.specs.Trace.{Trace, traceOf, READ, TASKS, WORKSPACE-CELLS}
 use Rattle.trace.specs.Line.{Line, passes, fails, haltOperand, step, lineAfter}
 use Rattle.trace.specs.Graph.{Reach, graphEvents}
 use Rattle.trace.specs.Race.{Conflict, Race, InD}
-use Rattle.trace.specs.Orders.{occurrences, Rising, Order, KeepsArcs, positions, lastWrite, sees}
+use Rattle.trace.specs.Orders.{occurrences, Rising, Order, KeepsArcs, positions, SameHeld, HeldDiffers, SameSeen, SeenDiffers}
 use Rattle.trace.specs.Joins.{Chain, topOf, linksOf, MAX-LINKS, joinsAfter}
 use Rattle.trace.specs.Outcome.{Reply, says, refused, Verdict, clean, race, sizes, orderRoom, lookedAt}
 
@@ -135,10 +135,11 @@ pub record OrderingCallDemand (kinds tasks operands workspace : List ℕ) (p q :
 -- ---- demand 3
 
 -- In the order o "each read sees the same write as in the trace itself, and each location ends with the same last write as there". "Two writes are the
--- same if they are one event; none is the same only as none."
-pub record SameWrites (tr : Trace) (n : ℕ) (o : List ℕ) : Type 0 where
-  pub reads : (r : ℕ) → r < n → tr .kind r ≡ READ → sees tr o r ≡ sees tr (positions n) r
-  pub ends : (l : ℕ) → lastWrite tr o l ≡ lastWrite tr (positions n) l
+-- same if they are one event; none is the same only as none." Document 02, K3: "each read sees the same last write and the same set of sums after that
+-- write, and so does each location at the end."
+pub record SameThroughout (tr : Trace) (n : ℕ) (o : List ℕ) : Type 0 where
+  pub reads : (r : ℕ) → r < n → tr .kind r ≡ READ → SameSeen tr o (positions n) r
+  pub ends : (l : ℕ) → SameHeld tr o (positions n) l
 
 -- "The two are equal at every place but two, side by side, where the first has s, t and the second t, s."
 pub record Swapped (s t : ℕ) (o₁ o₂ : List ℕ) : Type 0 where
@@ -159,6 +160,14 @@ pub record Witnesses (tr : Trace) (graph s t : ℕ) (o₁ o₂ : List ℕ) : Typ
   pub keeps₂ : KeepsArcs tr graph (suc t) o₂
   pub swapped : Swapped s t o₁ o₂
 
+-- "For a race, what the location holds after the pair differs between the two orders in the last write or in the set of sums, or else the read of the pair
+-- sees something different" (document 02, K3). The pair s, t stands at the places `at` and `at` + 1 of two orders.
+pub record PairMatters (tr : Trace) (s t at : ℕ) (o₁ o₂ : List ℕ) : Type 0 where
+  -- Where neither reads, what their location holds right after the pair differs;
+  pub held-differs : tr .kind s ≢ READ → tr .kind t ≢ READ → HeldDiffers tr (take (at + 2) o₁) (take (at + 2) o₂) (tr .operand s)
+  -- where one reads, what it sees differs.
+  pub seen-differs : (r : ℕ) → (r ≡ s) ⊎ (r ≡ t) → tr .kind r ≡ READ → SeenDiffers tr o₁ o₂ r
+
 -- "in position order": a list of those positions up to t of which P holds.
 pub record InPositionOrder (t : ℕ) (P : ℕ → Type 0) (list : List ℕ) : Type 0 where
   pub rising : Rising list
@@ -175,10 +184,13 @@ pub record Scheduled (tr : Trace) (graph s t a b : ℕ) (o : List ℕ) : Type 0 
 -- DEMAND 3 of an answer about the first n events, and of the order buffers before (b₁, b₂) and after (a₁, a₂).
 pub record Demand3 (tr : Trace) (n : ℕ) (answer : Reply Verdict) (b₁ b₂ a₁ a₂ : List ℕ) : Type 0 where
   -- "if the judge said clean, then whatever order of all the events the cores take, so long as it keeps all arcs of the task graph, each read sees the
-  -- same write as in the trace itself, and each location ends with the same last write as there."
-  pub when-clean : answer ≡ says clean → (o : List ℕ) → Order n o → KeepsArcs tr (graphOf tr n) n o → SameWrites tr n o
+  -- same write as in the trace itself, and each location ends with the same last write as there"; and the same sums after that write.
+  pub when-clean : answer ≡ says clean → (o : List ℕ) → Order n o → KeepsArcs tr (graphOf tr n) n o → SameThroughout tr n o
   -- "If it said race s t, the first t + 1 cells of the two order buffers hold two orders of the events up to t, t included."
   pub when-race : (s t : ℕ) → answer ≡ says (race s t) → Witnesses tr (graphOf tr n) s t (take (suc t) a₁) (take (suc t) a₂)
+  -- Between these two what the location holds right after the pair differs, or else what the read of the pair sees.
+  pub pair-matters :
+      (s t : ℕ) (said : answer ≡ says (race s t)) → PairMatters tr s t (when-race s t said .swapped .at) (take (suc t) a₁) (take (suc t) a₂)
   -- "The first order buffer (u16 cells) then holds D in position order, then s, t, then all other positions up to t in position order. The second holds
   -- the same with t, s."
   pub holds₁ : (s t : ℕ) → answer ≡ says (race s t) → Scheduled tr (graphOf tr n) s t s t (take (suc t) a₁)
@@ -214,14 +226,3 @@ pub record JudgeLinks (kinds tasks operands : List ℕ) (answer : Reply Verdict)
   pub with-verdict : (v : Verdict) → answer ≡ says v → MostLinks (traceOf kinds tasks operands) (lookedAt (length kinds) answer) links
   -- "with a refusal, 0."
   pub with-refusal : (number position : ℕ) → answer ≡ refused number position → links ≡ 0
-
--- ---- why a race matters
-
--- The pair s, t of a race stands at the places `at` and `at` + 1 of two orders.
-pub record PairMatters (tr : Trace) (s t at : ℕ) (o₁ o₂ : List ℕ) : Type 0 where
-  -- Where both write, the last writes of their location right after the pair differ.
-  pub last-writes-differ :
-      tr .kind s ≡ WRITE → tr .kind t ≡ WRITE
-      → lastWrite tr (take (at + 2) o₁) (tr .operand s) ≢ lastWrite tr (take (at + 2) o₂) (tr .operand s)
-  -- What the one of the pair that is a read sees differs.
-  pub seen-differs : (r : ℕ) → (r ≡ s) ⊎ (r ≡ t) → tr .kind r ≡ READ → sees tr o₁ r ≢ sees tr o₂ r

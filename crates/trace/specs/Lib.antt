@@ -13,3 +13,4 @@ pub mod Answers
 pub mod Runs
 pub mod Refusals
 pub mod Slices
+pub mod Kinds

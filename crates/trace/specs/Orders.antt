@@ -1,11 +1,12 @@
--- Orders of events, what a read sees in one, and what a location ends with (document 01, "Paths, conflicts, races"). Assumes nothing.
+-- Orders of events, what a location holds after one, and what a read sees in one (document 01, "Paths, conflicts, races"; document 02, K3). Assumes nothing.
 use Prim.Native.Nat.{ℕ, zero, suc, _+_, _<_, _≤_}
 use mathlib.Core.Path.{_≡_}
 use mathlib.Core.Bool.{Bool, true, false, cond, _&&_}
 use mathlib.Core.List.{List, [], _∷_}
 use mathlib.Core.Option.{Option, none, some}
+use mathlib.Core.Logic.{_⊎_, _↔_, _≢_}
 use lib.Dec.{eqb}
-use Rattle.trace.specs.Trace.{Trace, WRITE}
+use Rattle.trace.specs.Trace.{Trace, WRITE, SUM}
 use Rattle.trace.specs.Graph.{Arc}
 
 -- 1 where x is p, else 0.
@@ -72,10 +73,36 @@ module _ (tr : Trace) where
   unfoldable pub writes : ℕ → ℕ → Bool
   writes l p = eqb (tr .kind p) WRITE && eqb (tr .operand p) l
 
+  -- Event p is a sum of the location l.
+  unfoldable pub sums : ℕ → ℕ → Bool
+  sums l p = eqb (tr .kind p) SUM && eqb (tr .operand p) l
+
   -- "A location's last write is the latest write to it in that order, or none."
   abbrev pub lastWrite : List ℕ → ℕ → Option ℕ
   lastWrite o l = latest (writes l) o
 
-  -- "A read sees the latest write to its location earlier in the order at hand, or none."
+  -- u is in "the set of sums after that write": a sum of the location that no write of it follows. Where it has no write, all its sums are in the set.
+  pub record SumSince (o : List ℕ) (l u : ℕ) : Type 0 where
+    pub sum : sums l u ≡ true
+    pub listed : 0 < occurrences u o
+    pub after-writes : (w : ℕ) → writes l w ≡ true → 0 < occurrences w o → place w o < place u o
+
+  -- After two lists the location holds "the same last write and the same set of sums after that write".
+  pub record SameHeld (o o′ : List ℕ) (l : ℕ) : Type 0 where
+    pub last-write : lastWrite o l ≡ lastWrite o′ l
+    pub sums-since : (u : ℕ) → SumSince o l u ↔ SumSince o′ l u
+
+  -- What it holds differs "in the last write or in the set of sums": some u is in one of the sets alone.
+  abbrev pub HeldDiffers : List ℕ → List ℕ → ℕ → Type 0
+  HeldDiffers o o′ l = (lastWrite o l ≢ lastWrite o′ l) ⊎ ((u : ℕ) × (SumSince o l u ↔ SumSince o′ l u → ⊥))
+
+  -- "A read sees the latest write to its location earlier in the order at hand, or none", and the set of sums after that write: what its location holds after
+  -- the events before it.
   abbrev pub sees : List ℕ → ℕ → Option ℕ
   sees o r = lastWrite (before r o) (tr .operand r)
+
+  abbrev pub SameSeen : List ℕ → List ℕ → ℕ → Type 0
+  SameSeen o o′ r = SameHeld (before r o) (before r o′) (tr .operand r)
+
+  abbrev pub SeenDiffers : List ℕ → List ℕ → ℕ → Type 0
+  SeenDiffers o o′ r = HeldDiffers (before r o) (before r o′) (tr .operand r)

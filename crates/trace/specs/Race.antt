@@ -1,20 +1,21 @@
--- Conflicts and races (document 01, "Paths, conflicts, races"; source document 000, section 2.3), and the events that a race's two orders put first.
--- Assumes nothing.
+-- Conflicts and races (document 01, "Paths, conflicts, races"; document 02, K3; source document 000, section 2.3), and the events that a race's two orders
+-- put first. Assumes nothing.
 use Prim.Native.Nat.{ℕ, _<_}
 use mathlib.Core.Path.{_≡_}
-use mathlib.Core.Bool.{Bool, true, _||_}
+use mathlib.Core.Bool.{Bool, true, _&&_, _||_}
 use mathlib.Core.Logic.{_⊎_, _≢_}
 use lib.Dec.{eqb}
-use Rattle.trace.specs.Trace.{Trace, WRITE, isAccess}
+use Rattle.trace.specs.Trace.{Trace, READ, WRITE, SUM, isAccess}
 use Rattle.trace.specs.Graph.{Reach}
 
--- Which kinds of two accesses to one location conflict: "at least one is a write".
+-- Which kinds of two accesses to one location conflict: "at least one is a write", or one is a read and one a sum. "A sum conflicts with a read and with a
+-- write of that location, and never with another sum."
 unfoldable pub conflicting : ℕ → ℕ → Bool
-conflicting j k = eqb j WRITE || eqb k WRITE
+conflicting j k = (eqb j WRITE || eqb k WRITE) || ((eqb j READ && eqb k SUM) || (eqb j SUM && eqb k READ))
 
 -- In the graph of the first `graph` events:
 module _ (tr : Trace) (graph : ℕ) where
-  -- "Two accesses conflict if they have one location and at least one is a write."
+  -- "Two accesses conflict if they have one location and at least one is a write", or one is a read and one a sum.
   pub record Conflict (p q : ℕ) : Type 0 where
     pub first-event : p < graph
     pub second-event : q < graph

@@ -1,14 +1,15 @@
 -- The runs of document 01 that are marked † ("Runs to go by"), as one table of trace and outcome, judged by the very function that the judge's contract
--- cites; those that tell a judge that deceives; and those that tell another table of joins. Assumes nothing.
+-- cites; those that tell a judge that deceives; those that tell another rule for sums; and those that tell another table of joins. Assumes nothing.
 use Prim.Native.Nat.{ℕ, _+_}
 use mathlib.Core.List.{List, [], _∷_, _++_, map}
 use lib.ListN.{length, drop, replicate}
-use Rattle.trace.specs.Trace.{Event, READ, WRITE, FORK, JOIN, HALT, WORKSPACE-CELLS}
+use Rattle.trace.specs.Trace.{Event, READ, WRITE, FORK, JOIN, HALT, SUM, WORKSPACE-CELLS}
 use Rattle.trace.specs.Outcome.{Reply, says, refused, Verdict, clean, race, Outcome, judgeOutcome}
 
 -- "`0 fork 1` means task 0 forks task 1."
 infix 80 _read_
 infix 80 _write_
+infix 80 _sum_
 infix 80 _fork_
 infix 80 _join_
 infix 80 _halt
@@ -17,6 +18,9 @@ x read l = record { task = x; kind = READ; operand = l }
 
 abbrev pub _write_ : ℕ → ℕ → Event
 x write l = record { task = x; kind = WRITE; operand = l }
+
+abbrev pub _sum_ : ℕ → ℕ → Event
+x sum l = record { task = x; kind = SUM; operand = l }
 
 abbrev pub _fork_ : ℕ → ℕ → Event
 x fork a = record { task = x; kind = FORK; operand = a }
@@ -104,6 +108,21 @@ deceivers =
     (0 ∷ 3 ∷ 4 ∷ 5 ∷ 6 ∷ 1 ∷ 7 ∷ 2 ∷ [])
     (0 ∷ 3 ∷ 4 ∷ 5 ∷ 6 ∷ 7 ∷ 1 ∷ 2 ∷ [])
     ∷ gives (0 write 5 ∷ 0 fork 1 ∷ 1 write 5 ∷ []) (says clean)
+    ∷ []
+
+-- ---- sums (document 02, K3)
+
+-- Two sums that no path joins are clean, also where a read comes before both and another after both. A sum and a read, or a write, that no path joins race,
+-- either way round; so does the first of two sums where only the second reaches the read.
+unfoldable pub counters : List Example
+counters =
+    gives (0 fork 1 ∷ 1 sum 5 ∷ 1 halt ∷ 0 sum 5 ∷ []) (says clean)
+    ∷ joins (0 read 5 ∷ 0 fork 1 ∷ 1 sum 5 ∷ 1 halt ∷ 0 sum 5 ∷ 0 join 1 ∷ 0 read 5 ∷ 0 sum 5 ∷ []) 1
+    ∷ races (0 fork 1 ∷ 1 sum 5 ∷ 1 halt ∷ 0 read 5 ∷ []) 1 3 0 (0 ∷ 1 ∷ 3 ∷ 2 ∷ []) (0 ∷ 3 ∷ 1 ∷ 2 ∷ [])
+    ∷ races (0 fork 1 ∷ 1 read 5 ∷ 1 halt ∷ 0 sum 5 ∷ []) 1 3 0 (0 ∷ 1 ∷ 3 ∷ 2 ∷ []) (0 ∷ 3 ∷ 1 ∷ 2 ∷ [])
+    ∷ races (0 fork 1 ∷ 1 sum 5 ∷ 1 halt ∷ 0 write 5 ∷ []) 1 3 0 (0 ∷ 1 ∷ 3 ∷ 2 ∷ []) (0 ∷ 3 ∷ 1 ∷ 2 ∷ [])
+    ∷ races (0 fork 1 ∷ 1 write 5 ∷ 1 halt ∷ 0 sum 5 ∷ []) 1 3 0 (0 ∷ 1 ∷ 3 ∷ 2 ∷ []) (0 ∷ 3 ∷ 1 ∷ 2 ∷ [])
+    ∷ races (0 fork 1 ∷ 1 sum 5 ∷ 1 halt ∷ 0 sum 5 ∷ 0 read 5 ∷ []) 1 4 0 (0 ∷ 3 ∷ 1 ∷ 4 ∷ 2 ∷ []) (0 ∷ 3 ∷ 4 ∷ 1 ∷ 2 ∷ [])
     ∷ []
 
 -- ---- the table of joins (document 02, K2)

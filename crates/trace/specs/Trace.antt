@@ -23,7 +23,7 @@ unfoldable pub traceOf : List ℕ → List ℕ → List ℕ → Trace
 traceOf kinds tasks operands =
     record { kind = λ p. getD kinds p 0; task = λ p. getD tasks p 0; operand = λ p. getD operands p 0 }
 
--- "Kinds are 0 read, 1 write, 2 fork, 3 join, 4 halt."
+-- "Kinds are 0 read, 1 write, 2 fork, 3 join, 4 halt." Document 02, K3: "Kind 5 becomes a sum".
 abbrev pub READ : ℕ
 READ = 0
 
@@ -39,13 +39,16 @@ JOIN = 3
 abbrev pub HALT : ℕ
 HALT = 4
 
--- A kind that the document names.
-unfoldable pub isKind : ℕ → Bool
-isKind k = leb k HALT
+abbrev pub SUM : ℕ
+SUM = 5
 
--- An access: a read or a write.
+-- A kind that the documents name: "Refusal 5 now begins at kind 6".
+unfoldable pub isKind : ℕ → Bool
+isKind k = leb k SUM
+
+-- An access: a read, a write or a sum.
 unfoldable pub isAccess : ℕ → Bool
-isAccess k = eqb k READ || eqb k WRITE
+isAccess k = eqb k READ || (eqb k WRITE || eqb k SUM)
 
 -- "a location, 0 to 1,023"
 abbrev pub LOCATIONS : ℕ

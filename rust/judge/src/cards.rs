@@ -7,7 +7,8 @@ use std::cmp::Reverse;
 /// A count of a card, under the name of its column and its field.
 type Count = (&'static str, fn(&Card) -> u16);
 
-pub const COUNTS: &[Count] = &[("reads", |card| card.reads), ("writes", |card| card.writes)];
+pub const COUNTS: &[Count] =
+    &[("reads", |card| card.reads), ("writes", |card| card.writes), ("sums", |card| card.sums)];
 
 /// A location that was touched.
 pub struct Touched {

@@ -14,7 +14,7 @@ mod ways;
 pub use refusal::{Reason, Refused};
 
 use crate::cards::Cards;
-use crate::phrases::{clean_before, count};
+use crate::phrases::{clean_before, count, has_sums};
 use crate::recording::Recording;
 use crate::study::{Question, Scene, Study};
 use page::Page;
@@ -70,10 +70,11 @@ fn clean(page: &mut Page, scene: &Scene) {
         page.say("There is no event in the file, so nothing can race.");
         return;
     }
-    page.say(
+    page.say(&format!(
         "No race: whatever order the cores take that the forks and joins allow, each read sees the \
-         same write, and each location ends with the same last write.",
-    );
+         same write{sums}, and each location ends with the same last write{sums}.",
+        sums = if has_sums(scene.trace) { " and the same sums after it" } else { "" },
+    ));
     let tasks = count(scene.graph.columns().len(), "task");
     page.say(&format!("Judged: {} by {tasks}.", count(scene.trace.len(), "event")));
 }

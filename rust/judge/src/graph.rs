@@ -52,7 +52,9 @@ impl Walk {
         let Life { last, forked, .. } = *self.life(task)?;
         let mut starts = [last.or(forked), None];
         match kind {
-            Kind::Read | Kind::Write => (usize::from(operand) < LOCATIONS).then_some(())?,
+            Kind::Read | Kind::Write | Kind::Sum => {
+                (usize::from(operand) < LOCATIONS).then_some(())?;
+            }
             Kind::Fork => self.fork(p, operand)?,
             Kind::Join => starts[1] = self.join(p, operand)?,
             Kind::Halt => self.halt(p, task, operand)?,

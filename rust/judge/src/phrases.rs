@@ -3,18 +3,34 @@
 use racejudge::{Event, Kind, Place, Trace};
 use std::ffi::OsStr;
 
+/// What an access does to its location, which follows.
+pub fn verb(kind: Kind) -> Option<&'static str> {
+    match kind {
+        Kind::Read => Some("reads"),
+        Kind::Write => Some("writes"),
+        Kind::Sum => Some("adds to"),
+        Kind::Fork | Kind::Join | Kind::Halt => None,
+    }
+}
+
 /// What the event does, in words.
 pub fn deed(event: Event) -> String {
     let Event { kind, task, operand } = event;
+    if let Some(verb) = event.kind().and_then(verb) {
+        return format!("task {task} {verb} location {operand}");
+    }
     match event.kind() {
-        Some(Kind::Read) => format!("task {task} reads location {operand}"),
-        Some(Kind::Write) => format!("task {task} writes location {operand}"),
         Some(Kind::Fork) => format!("task {task} forks task {operand}"),
         Some(Kind::Join) => format!("task {task} joins task {operand}"),
         Some(Kind::Halt) if operand == 0 => format!("task {task} halts"),
         Some(Kind::Halt) => format!("task {task} halts, with the operand {operand}"),
-        None => format!("task {task} does something of kind {kind} with {operand}"),
+        _ => format!("task {task} does something of kind {kind} with {operand}"),
     }
+}
+
+/// Whether a task of the trace adds to a location, so that sums are to be spoken of.
+pub fn has_sums(trace: &Trace) -> bool {
+    trace.kinds().contains(&Kind::Sum.number())
 }
 
 /// The line that made event p, from 1 as people count, and its source line. A halt has none: it was

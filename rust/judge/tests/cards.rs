@@ -47,10 +47,10 @@ fn a_clean_text_has_a_row_for_each_location_that_it_touches() {
 
 How busy the locations were:
 
-  location   reads   writes   first event   line   last event   line   accesses
-         0       1        0             7      7            7      7   #######
-         7       1        2             1      2            6      6   ####################
-      1023       0        1             4      4            4      4   #######
+  location   reads   writes   sums   first event   line   last event   line   accesses
+         0       1        0      0             7      7            7      7   #######
+         7       1        2      0             1      2            6      6   ####################
+      1023       0        1      0             4      4            4      4   #######
 
 Touched: 3 of 1,024 locations, by 5 accesses.
 The longest bar stands for 3 accesses.
@@ -66,8 +66,8 @@ fn a_binary_trace_has_no_lines() {
 
 How busy the locations were:
 
-  location   reads   writes   first event   last event   accesses
-         5       1        1             0            1   ####################
+  location   reads   writes   sums   first event   last event   accesses
+         5       1        1      0             0            1   ####################
 
 Touched: 1 of 1,024 locations, by 2 accesses.
 The longest bar stands for 2 accesses.
@@ -82,6 +82,41 @@ Events count from 0.
     assert_eq!([card.field("first_line"), card.field("last_line")], [&Json::Null; 2]);
 }
 
+/// Two tasks add to location 9 beside each other; the one writes 5 before it adds to that, and the
+/// other reads 9 once it has joined.
+#[test]
+fn sums_are_counted_and_are_the_first_and_the_last() {
+    let events = [
+        Event::fork(0, 1),
+        Event::sum(1, 9),
+        Event::sum(1, 9),
+        Event::write(1, 5),
+        Event::sum(1, 5),
+        Event::halt(1),
+        Event::sum(0, 9),
+        Event::join(0, 1),
+        Event::read(0, 9),
+    ];
+    let wanted = "clean 9
+
+How busy the locations were:
+
+  location   reads   writes   sums   first event   last event   accesses
+         5       0        1      1             3            4   ##########
+         9       1        0      3             1            8   ####################
+
+Touched: 2 of 1,024 locations, by 6 accesses.
+";
+    let words = words(&[], binary(events));
+    assert!(words.starts_with(wanted), "{words}");
+    let object = object(&[], binary(events));
+    let cards = [
+        r#"{"location":5,"reads":0,"writes":1,"sums":1,"first":3,"last":4,"first_line":null,"last_line":null}"#,
+        r#"{"location":9,"reads":1,"writes":0,"sums":3,"first":1,"last":8,"first_line":null,"last_line":null}"#,
+    ];
+    assert_eq!(object.field("cards").items(), cards.map(|card| Json::parse(card).unwrap()));
+}
+
 #[test]
 fn a_clean_object_has_the_fields_of_the_judge_and_the_cards() {
     let object = object(&[], CLEAN);
@@ -90,21 +125,23 @@ fn a_clean_object_has_the_fields_of_the_judge_and_the_cards() {
     let numbers = ["events", "tasks", "links"].map(|name| object.field(name).number());
     assert_eq!(numbers, [8, 2, 1]);
     let cards = [
-        r#"{"location":0,"reads":1,"writes":0,"first":7,"last":7,"first_line":7,"last_line":7}"#,
-        r#"{"location":7,"reads":1,"writes":2,"first":1,"last":6,"first_line":2,"last_line":6}"#,
-        r#"{"location":1023,"reads":0,"writes":1,"first":4,"last":4,"first_line":4,"last_line":4}"#,
+        r#"{"location":0,"reads":1,"writes":0,"sums":0,"first":7,"last":7,"first_line":7,"last_line":7}"#,
+        r#"{"location":7,"reads":1,"writes":2,"sums":0,"first":1,"last":6,"first_line":2,"last_line":6}"#,
+        r#"{"location":1023,"reads":0,"writes":1,"sums":0,"first":4,"last":4,"first_line":4,"last_line":4}"#,
     ];
     assert_eq!(object.field("cards").items(), cards.map(|card| Json::parse(card).unwrap()));
 }
 
-/// 3 and 8 are touched as often as each other, by reads and by writes; so are 1 and 900.
+/// 3 and 8 are touched as often as each other, by writes and sums and by reads; so are 1 and 900.
 #[test]
 fn the_busiest_stands_first_and_ties_keep_the_order_of_the_locations() {
-    let touches = [(1, 1, 0), (3, 0, 2), (8, 2, 0), (40, 2, 1), (900, 0, 1)];
+    let touches =
+        [(1, [1, 0, 0]), (3, [0, 1, 1]), (8, [2, 0, 0]), (40, [1, 1, 1]), (900, [0, 0, 1])];
     let mut events = Vec::new();
-    for (location, reads, writes) in touches {
+    for (location, [reads, writes, sums]) in touches {
         events.extend(repeat_n(Event::read(0, location), reads));
         events.extend(repeat_n(Event::write(0, location), writes));
+        events.extend(repeat_n(Event::sum(0, location), sums));
     }
     let rows = counted(&events.iter().copied().collect(), false);
     assert_eq!(locations(&rows), [1, 3, 8, 40, 900]);
@@ -123,8 +160,8 @@ fn a_location_that_is_hardly_touched_has_a_bar_beside_the_busiest() {
     hold(&words, &counted(&events().collect(), false));
     let (full, one) = ("#".repeat(20), "#");
     for row in [
-        format!("\n         7   32,767        0             0        32766   {full}\n"),
-        format!("\n         9        0        1         32767        32767   {one}\n"),
+        format!("\n         7   32,767        0      0             0        32766   {full}\n"),
+        format!("\n         9        0        1      0         32767        32767   {one}\n"),
     ] {
         assert!(words.contains(&row), "no {row} in\n{words}");
     }
@@ -132,7 +169,7 @@ fn a_location_that_is_hardly_touched_has_a_bar_beside_the_busiest() {
 
 #[test]
 fn one_location_may_have_all_events_and_all_locations_may_have_some() {
-    for event in [Event::read(0, 0), Event::write(0, 1_023)] {
+    for event in [Event::read(0, 0), Event::write(0, 1_023), Event::sum(0, 7)] {
         let trace: Trace = repeat_n(event, MAX_EVENTS).collect();
         let words = words(&[], trace.to_binary().unwrap());
         hold(&words, &counted(&trace, false));

@@ -238,6 +238,74 @@ fn a_race_says_who_reads_and_who_writes() {
     assert!(race('w', 'w').contains(&format!("Events 1 and 3 both write location 5, {ends}")));
 }
 
+/// An access by a task, of a kind, to a location.
+type Access = fn(u16, u16) -> Event;
+
+/// The words for a child's access to location 5 and one by its parent beside it, and for the same
+/// with the child joined between them.
+fn beside(one: Access, other: Access) -> [String; 2] {
+    let said = |joins: &[Event]| {
+        let start = [Event::fork(0, 1), one(1, 5), Event::halt(1)];
+        let events = [&start[..], joins, &[other(0, 5)]].concat();
+        run([&file(binary(events))]).out.replace('\n', " ")
+    };
+    [said(&[]), said(&[Event::join(0, 1)])]
+}
+
+#[test]
+fn a_race_with_a_sum_says_what_becomes_of_it() {
+    let [read, write, sum]: [Access; 3] = [Event::read, Event::write, Event::sum];
+    let holds = "Right after the two, location 5 holds what event";
+    let pairs: [(Access, Access, &str, String); 4] = [
+        (
+            sum,
+            read,
+            "Event 1 adds to location 5, event 3 reads it,",
+            "In the first order event 3 sees what event 1 adds, in the second it does not.".into(),
+        ),
+        (
+            read,
+            sum,
+            "Event 1 reads location 5, event 3 adds to it,",
+            "In the second order event 1 sees what event 3 adds, in the first it does not.".into(),
+        ),
+        (
+            sum,
+            write,
+            "Event 1 adds to location 5, event 3 writes it,",
+            format!(
+                "{holds} 3 writes: in the second order with what event 1 adds, in the first without."
+            ),
+        ),
+        (
+            write,
+            sum,
+            "Event 1 writes location 5, event 3 adds to it,",
+            format!(
+                "{holds} 1 writes: in the first order with what event 3 adds, in the second without."
+            ),
+        ),
+    ];
+    let clean = "each read sees the same write and the same sums after it, and each location ends \
+                 with the same last write and the same sums after it.";
+    for (one, other, head, difference) in pairs {
+        let [race, joined] = beside(one, other);
+        assert!(race.starts_with(&format!("race 1 3  {head} and nothing orders them:")), "{race}");
+        let orders = "0 [1 3] 2   0 [3 1] 2  ";
+        assert!(race.contains(&format!("{orders}{difference}  This is the first race")), "{race}");
+        assert!(joined.starts_with("clean 5 ") && joined.contains(clean), "{joined}");
+    }
+    // Two sums never race. Where there is no sum, none is spoken of.
+    let [sums, _] = beside(sum, sum);
+    assert!(sums.starts_with("clean 4 ") && sums.contains(clean), "{sums}");
+    for (one, other) in [(read, write), (write, read), (write, write)] {
+        for words in beside(one, other) {
+            assert!(!words.contains("sum") && !words.contains(" add"), "{words}");
+            assert!(!words.contains("In the first") && !words.contains("Right after"), "{words}");
+        }
+    }
+}
+
 #[test]
 fn a_race_of_a_binary_trace_is_told_without_lines() {
     let events = [Event::fork(0, 1), Event::write(1, 5), Event::halt(1), Event::read(0, 5)];

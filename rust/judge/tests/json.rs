@@ -96,6 +96,21 @@ fn a_binary_trace_has_no_lines() {
 }
 
 #[test]
+fn a_sum_has_its_kind() {
+    let events = [Event::fork(0, 1), Event::sum(1, 5), Event::halt(1), Event::read(0, 5)];
+    let path = file(binary(events));
+    let said = run(["--json".as_ref(), path.as_os_str()]);
+    let race = &objects(&said.out)[0];
+    assert_eq!((said.status, race.field("said").text()), (1, "race 1 3"));
+    let s =
+        r#"{"event":1,"task":1,"kind":"sum","operand":5,"line":null,"source":null,"text":null}"#;
+    assert_eq!(race.field("s"), &Json::parse(s).unwrap());
+    let path = file(binary([Event::sum(0, 5), Event::sum(0, 1_024)]));
+    let refused = &objects(&run(["--json".as_ref(), path.as_os_str()]).out)[0];
+    assert_eq!(refused.field("event").field("kind").text(), "sum");
+}
+
+#[test]
 fn a_refusal_has_the_event_or_the_line() {
     let event = file("T0|fork(T1)|1\nT1|r(V2000)|2\n");
     let line = file(b"T0|fork(T1)|1\nT1|r(V\xff\x01\"\\2)|2\r\n");

@@ -42,19 +42,26 @@ fn row_2_is_a_trace_that_is_too_long() {
 
 #[test]
 fn row_5_is_an_unknown_kind() {
-    let events = [Event::fork(0, 1), Event { kind: 9, task: 1, operand: 3 }];
-    let words = ["event 1   task 1 does something of kind 9 with 3", "Its kind is 9.", "4 halt"];
-    refused(binary(events), "refused 5 1", &words);
+    for kind in [6, 9, 255] {
+        let events = [Event::fork(0, 1), Event { kind, task: 1, operand: 3 }];
+        let deed = format!("event 1   task 1 does something of kind {kind} with 3");
+        let told =
+            format!("Its kind is {kind}. The kinds are 0 read, 1 write, 2 fork, 3 join, 4 halt");
+        let words = ["the kind is above 5", &deed, &told, ", 5 sum."];
+        refused(binary(events), "refused 5 1", &words);
+    }
 }
 
 #[test]
 fn row_6_is_an_event_after_the_end() {
-    let events = [Event::read(0, 1), Event::halt(0), Event::read(0, 1)];
-    refused(
-        binary(events),
-        "refused 6 2",
-        &["Task 0 halted at event 1.", "two runs stand in one file"],
-    );
+    for last in [Event::read(0, 1), Event::sum(0, 1)] {
+        let events = [Event::read(0, 1), Event::halt(0), last];
+        refused(
+            binary(events),
+            "refused 6 2",
+            &["Task 0 halted at event 1.", "two runs stand in one file"],
+        );
+    }
 }
 
 #[test]
@@ -82,12 +89,17 @@ fn row_7_is_a_task_that_does_not_run() {
     refused(binary(events), "refused 7 1", &words);
     let events = [Event::fork(0, 1), Event::halt(1), Event::read(1, 1)];
     refused(binary(events), "refused 7 2", &["Task 1 has halted: event 1."]);
+    let words = ["event 0   task 1 adds to location 0", "Task 1 was never forked."];
+    refused(binary([Event::sum(1, 0)]), "refused 7 0", &words);
 }
 
 #[test]
 fn rows_8_and_9_are_large_numbers() {
     let words = ["2000 is too large: the numbers of locations go from 0 to 1,023."];
     refused("T0|r(V2000)|2\n", "refused 8 0", &words);
+    let words =
+        ["event 0   task 0 adds to location 1024", "1024 is too large: the numbers of locations"];
+    refused(binary([Event::sum(0, 1_024)]), "refused 8 0", &words);
     let words = ["1024 is too large: the numbers of tasks go from 0 to 1,023."];
     refused("T0|fork(T1024)|2\n", "refused 9 0", &words);
 }
@@ -238,6 +250,9 @@ fn row_14_is_a_wrong_operation() {
     let full = "the trace is of the full STD format";
     bad_line(b"T1|begin()|20\n", "T1|begin()|20", 3, &begin, full);
     bad_line(b"T1|end()|20\n", "T1|end()|20", 3, &end, full);
+    let sums = "No line of a text makes a sum. The binary form has them, as kind 5.";
+    let s = "the operation s is not part of the form";
+    bad_line(b"T1|s(V5)|20\n", "T1|s(V5)|20", 3, s, sums);
     let small = "Operations are written in small letters";
     bad_line(b"T1|W(V5)|20\n", "T1|W(V5)|20", 3, "the operation W has a large letter", small);
 }

@@ -235,6 +235,53 @@ fn a_race_shows_its_pair_its_fork_and_the_missing_join() {
     );
 }
 
+/// Tasks 1 and 2 add to location 9, and so does task 0, which then reads it and has joined task 2 alone.
+const COUNTER: [Event; 11] = [
+    Event::fork(0, 1),
+    Event::read(1, 3),
+    Event::sum(1, 9),
+    Event::sum(1, 9),
+    Event::halt(1),
+    Event::fork(0, 2),
+    Event::sum(2, 9),
+    Event::halt(2),
+    Event::join(0, 2),
+    Event::sum(0, 9),
+    Event::read(0, 9),
+];
+
+#[test]
+fn sums_have_a_sign_of_their_own() {
+    let legend = "s 3: adds to location 3";
+    let race = Drawn::of_events(COUNTER, "race");
+    assert_eq!(race.pair(), Some((2, 10)));
+    for (p, event) in race.events() {
+        let is_sum = race.trace.event(p).expect("an event").kind() == Some(Kind::Sum);
+        let signs = event.all("path").into_iter().filter(|path| path.has_class("sum"));
+        let signs: Vec<&Element> = signs.collect();
+        assert_eq!(signs.len(), usize::from(is_sum), "event {p}");
+        let labels = event.all("text").into_iter().filter(|text| text.text == "s 9").count();
+        assert_eq!(labels, usize::from(is_sum), "event {p}");
+    }
+    for (p, tone) in [(2, "to-s"), (3, "pale"), (6, "plain"), (9, "to-t")] {
+        let signs = race.event(p).all("path");
+        assert!(
+            signs.iter().any(|path| path.has_class("sum") && path.has_class(tone)),
+            "event {p}"
+        );
+    }
+    assert!(race.says(legend) && race.says("task 1 adds to location 9"));
+    assert!(race.said().contains("Event 2 (task 1 adds to location 9) and event 10 (task 0 reads"));
+    let clean = Drawn::of_events(COUNTER.into_iter().take(10), "clean");
+    assert!(clean.says(legend) && clean.says("clean 10"));
+    assert!(clean.said().contains("order the two, unless both read it or both add to it."));
+    for drawn in examples() {
+        assert!(!drawn.says(legend) && !drawn.said().contains("add to"));
+    }
+    nothing_lies_over_a_label(&race);
+    nothing_lies_over_a_label(&clean);
+}
+
 #[test]
 fn clean_runs_and_refusals_show_no_race() {
     let refused = "T0|fork(T1)|1\nT1|w(V5)|2\nT0|fork(T2)|3\nT0|join(T1)|5\nT0|r(V5)|6\n";

@@ -11,7 +11,8 @@ use racejudge::{Kind, Refusal, Trace, Verdict};
 use racejudge_bench::line::Line;
 use racejudge_bench::rng::Rng;
 use racejudge_bench::samples;
-use racejudge_bench::trace as slow;
+use racejudge_bench::sight::Run;
+use racejudge_bench::trace::{self as slow, READ, SUM};
 
 /// Lines of the form. What follows the beginning of any line may be what follows some beginning of
 /// one of these: a number may end behind each of its digits.
@@ -167,7 +168,7 @@ fn told(trace: &Trace, mut check: impl FnMut(&Study, &str)) {
 fn a_race_says_that_it_is_the_first_and_which_rule_is_broken_behind_it() {
     let first = "\n\nThis is the first race of the trace. Others may follow once it is mended.\n";
     let mut later = 0;
-    for (trace, broken) in races(3, 4_000, 100) {
+    for (trace, broken) in races(3, 5_000, 100) {
         told(&trace, |_, words| {
             assert!(words.contains(first), "{words}");
             let rule = "Later a rule is broken too: ";
@@ -191,6 +192,72 @@ The trace is refused there, at event 4 (line 4), once no race comes before.
 
 Events count from 0, ";
     assert!(words.contains(told), "{words}");
+}
+
+/// What is true of a race with a sum, by running its two orders up to the end of the pair; none where
+/// the pair has no sum.
+fn difference(trace: &slow::Trace, s: usize, t: usize, orders: [&[u16]; 2]) -> Option<String> {
+    let sum = [s, t].into_iter().find(|&p| trace.kinds[p] == SUM)?;
+    let (other, location) = (s + t - sum, trace.operands[t]);
+    let runs = orders.map(|order| {
+        let end = order.iter().rposition(|&p| [s, t].contains(&p.into())).expect("the pair");
+        Run::of(trace, order[..=end].iter().map(|&p| p.into()))
+    });
+    let contents = match trace.kinds[other] {
+        READ => runs.map(|run| run.sees(other).expect("it has run").clone()),
+        _ => runs.map(|run| run.holds(location)),
+    };
+    let (with, without) = match contents.each_ref().map(|content| content.sums.contains(&sum)) {
+        [true, false] => ("first", "second"),
+        [false, true] => ("second", "first"),
+        both => panic!("{both:?} of {s} {t} in {trace}"),
+    };
+    Some(match trace.kinds[other] {
+        READ => format!(
+            "In the {with} order event {other} sees what event {sum} adds, in the {without} it \
+             does not."
+        ),
+        _ => {
+            assert!(contents.iter().all(|content| content.write == Some(other)), "{trace}");
+            format!(
+                "Right after the two, location {location} holds what event {other} writes: in the \
+                 {with} order with what event {sum} adds, in the {without} without."
+            )
+        }
+    })
+}
+
+#[test]
+fn what_is_said_of_sums_is_true() {
+    let (mut rng, mut met) = (Rng::new(8), [0; 4]);
+    for _ in 0..6_000 {
+        let (n, care) = (1 + rng.below(60), rng.one_of(&[0, 60, 100]));
+        let slow = samples::valid(&mut rng, n, care);
+        let has_sums = slow.kinds.contains(&SUM);
+        told(&proved(&slow), |study, words| {
+            let words = words.replace('\n', " ");
+            match &study.answer {
+                Ok(Verdict::Race { s, t, first, second, .. }) => {
+                    let difference = difference(&slow, *s, *t, [first, second]);
+                    let others =
+                        words.contains("Right after the two") || words.contains(" order event ");
+                    assert_eq!(others, difference.is_some(), "{words}");
+                    assert!(
+                        difference.iter().all(|it| words.contains(it)),
+                        "{difference:?} {words}"
+                    );
+                    met[usize::from(difference.is_some())] += 1;
+                }
+                _ => {
+                    let told =
+                        words.contains("each read sees the same write and the same sums after it,");
+                    assert_eq!(told, has_sums, "{words}");
+                    met[2 + usize::from(has_sums)] += 1;
+                }
+            }
+        });
+    }
+    assert!(met.iter().all(|&count| count > 200), "{met:?}");
 }
 
 /// The events of the rows between two phrases; none where some are left out.

@@ -10,7 +10,7 @@ use std::fmt;
 ///
 /// assert_eq!(Kind::try_from(2), Ok(Kind::Fork));
 /// assert_eq!(Kind::Fork.number(), 2);
-/// assert!(Kind::try_from(5).is_err());
+/// assert!(Kind::try_from(6).is_err());
 /// ```
 #[derive(Clone, Copy, Debug, PartialEq, Eq, Hash)]
 pub enum Kind {
@@ -24,20 +24,23 @@ pub enum Kind {
     Join,
     /// The task ends.
     Halt,
+    /// The task adds to a location, as to a counter.
+    Sum,
 }
 
 impl Kind {
     /// All kinds, in the order of their numbers.
-    pub const ALL: [Kind; 5] = [Kind::Read, Kind::Write, Kind::Fork, Kind::Join, Kind::Halt];
+    pub const ALL: [Kind; 6] =
+        [Kind::Read, Kind::Write, Kind::Fork, Kind::Join, Kind::Halt, Kind::Sum];
 
-    /// The number that stands for the kind in a trace: 0 for a read to 4 for a halt.
+    /// The number that stands for the kind in a trace: 0 for a read to 5 for a sum.
     pub const fn number(self) -> u8 {
         self as u8
     }
 
-    /// Whether the event touches a location: a read or a write.
+    /// Whether the event touches a location: a read, a write or a sum.
     pub const fn is_access(self) -> bool {
-        matches!(self, Kind::Read | Kind::Write)
+        matches!(self, Kind::Read | Kind::Write | Kind::Sum)
     }
 }
 
@@ -50,6 +53,7 @@ impl fmt::Display for Kind {
             Kind::Fork => "fork",
             Kind::Join => "join",
             Kind::Halt => "halt",
+            Kind::Sum => "sum",
         })
     }
 }
@@ -68,7 +72,7 @@ pub struct UnknownKind(pub u8);
 
 impl fmt::Display for UnknownKind {
     fn fmt(&self, f: &mut fmt::Formatter<'_>) -> fmt::Result {
-        write!(f, "{} stands for no kind of event: kinds go from 0 to 4", self.0)
+        write!(f, "{} stands for no kind of event: kinds go from 0 to 5", self.0)
     }
 }
 
@@ -93,7 +97,7 @@ pub struct Event {
     pub kind: u8,
     /// The task that acts.
     pub task: u16,
-    /// The location of a read or a write, the task that is forked or joined, 0 for a halt.
+    /// The location of a read, a write or a sum, the task that is forked or joined, 0 for a halt.
     pub operand: u16,
 }
 
@@ -110,6 +114,11 @@ impl Event {
     /// `task` writes `location`.
     pub const fn write(task: u16, location: u16) -> Self {
         Event::new(Kind::Write, task, location)
+    }
+
+    /// `task` adds to `location`.
+    pub const fn sum(task: u16, location: u16) -> Self {
+        Event::new(Kind::Sum, task, location)
     }
 
     /// `task` forks `child`.

@@ -38,7 +38,7 @@
 //!
 //! // What the clean trace does to location 5.
 //! let told = cards(&joined)?.expect("no race");
-//! assert_eq!(told[5], Card { reads: 1, writes: 1, first: 1, last: 4 });
+//! assert_eq!(told[5], Card { reads: 1, writes: 1, sums: 0, first: 1, last: 4 });
 //! # Ok::<(), racejudge::Refusal>(())
 //! ```
 //!
@@ -51,6 +51,12 @@
 //! running one out of the line. A trace may end anywhere. One that breaks a rule is refused, with
 //! the number of the rule and the event's position: [`Refusal`].
 //!
+//! # What conflicts
+//!
+//! Reads, writes and sums are accesses. A sum adds to a location, as to a counter, so that the order
+//! of sums among themselves does not matter. Two accesses of one location conflict unless both are
+//! reads or both are sums. They race if they conflict and no path leads from one to the other.
+//!
 //! # The table of joins
 //!
 //! It puts the tasks in trees, each task in one of its own at the start. A join makes one of the
@@ -61,9 +67,9 @@
 //! # What there is
 //!
 //! Traces come from events ([`Trace::push`], `collect`), from slices ([`Trace::from_slices`]), from
-//! text ([`Trace::from_text`]) or from bytes ([`Trace::from_binary`]). No call panics on any of
-//! them, keeps anything between calls, or reads or writes a file. [`raw`] has the C interface
-//! itself, for callers who lend the buffers.
+//! text ([`Trace::from_text`], which has no sums) or from bytes ([`Trace::from_binary`]). No call
+//! panics on any of them, keeps anything between calls, or reads or writes a file. [`raw`] has the C
+//! interface itself, for callers who lend the buffers.
 
 #![warn(missing_docs)]
 #![deny(unsafe_code, unsafe_op_in_unsafe_fn)]

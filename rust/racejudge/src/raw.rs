@@ -19,9 +19,9 @@ use crate::Card;
 /// The file name of the archive that is linked.
 pub const ARCHIVE: &str = env!("RACEJUDGE_ARCHIVE");
 
-/// The version of the C interface. An archive of version 1 links as well, and leaves the judge's
-/// third value unset.
-pub const VERSION: u32 = 2;
+/// The version of the C interface. Older archives link as well: both refuse sums and make cards that
+/// do not count them, of 8 bytes each, and version 1 leaves the judge's third value unset.
+pub const VERSION: u32 = 3;
 
 /// The workspace has at least this many cells more than the trace has events.
 pub const WORKSPACE: usize = 12_288;
@@ -170,7 +170,7 @@ pub fn judge(
 /// };
 /// let mut cards = [Card::UNTOUCHED; LOCATIONS];
 /// assert_eq!(judge_lent(&mut cards).code, raw::CLEAN);
-/// assert_eq!(cards[5], Card { reads: 1, writes: 0, first: 0, last: 0 });
+/// assert_eq!(cards[5], Card { reads: 1, writes: 0, sums: 0, first: 0, last: 0 });
 ///
 /// let told = judge_lent(&mut cards[1..]);
 /// assert_eq!((told.code, told.values), (raw::REFUSED, [16, 0, 0]));

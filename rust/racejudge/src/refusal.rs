@@ -49,7 +49,7 @@ impl Refusal {
             2 => "the trace has more than 32,768 events",
             3 => "the workspace is too short for the trace",
             4 => "an order buffer has fewer cells than the trace has events",
-            5 => "the kind is above 4",
+            5 => "the kind is above 5",
             6 => "task 0 has halted",
             7 => "the actor is not the running task",
             8 => "the location is above 1,023",

@@ -50,8 +50,8 @@ impl Trace {
     }
 
     /// The trace of a text: one event a line, `Ta|r(Vb)|c`, `Ta|w(Vb)|c`, `Ta|fork(Tb)|c` or
-    /// `Ta|join(Tb)|c`, with the halts that the lines imply. Whether it keeps the rules is the
-    /// judge's to say.
+    /// `Ta|join(Tb)|c`, with the halts that the lines imply. No line makes a sum. Whether the trace
+    /// keeps the rules is the judge's to say.
     ///
     /// ```
     /// use racejudge::{Event, Place, Refusal, Trace};

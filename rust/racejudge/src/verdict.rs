@@ -1,19 +1,19 @@
 //! The questions about a trace, with buffers of their own.
 
 use crate::raw::{self, WORKSPACE};
-use crate::{Card, Refusal, Trace, LOCATIONS, MAX_EVENTS, MAX_LINKS};
+use crate::{Card, Event, Refusal, Trace, LOCATIONS, MAX_EVENTS, MAX_LINKS};
 
 /// What the judge says of a trace that keeps the rules up to the first race.
 #[derive(Clone, Debug, PartialEq, Eq)]
 pub enum Verdict {
     /// The rules are kept, and every two accesses that conflict are joined by a path: whatever
-    /// order the cores take, each read sees the same write, and each location ends with the same
-    /// last one.
+    /// order the cores take, each read sees the same last write and the same sums after it, and so
+    /// each location ends.
     Clean {
         /// The most links from a task to its top, after the last event: [`Verdict::links`].
         links: usize,
     },
-    /// Two accesses of one location, at least one of them a write, with no path between them.
+    /// Two accesses of one location, neither both reads nor both sums, with no path between them.
     Race {
         /// The smallest position that `t` races with.
         s: usize,
@@ -70,13 +70,27 @@ impl Verdict {
 /// assert!(matches!(judge(&trace), Ok(Verdict::Race { s: 1, t: 4, .. })));
 /// ```
 ///
+/// Tasks may add to a counter in any order. Who reads it must have joined them:
+///
+/// ```
+/// use racejudge::{judge, Event, Trace, Verdict};
+///
+/// let mut trace = Trace::default();
+/// trace.extend([Event::fork(0, 1), Event::sum(1, 5), Event::halt(1), Event::sum(0, 5)]);
+/// assert_eq!(judge(&trace), Ok(Verdict::Clean { links: 0 }));
+///
+/// trace.push(Event::read(0, 5));
+/// assert!(matches!(judge(&trace), Ok(Verdict::Race { s: 1, t: 4, .. })));
+/// ```
+///
 /// # Errors
 ///
 /// A refusal by row 1 or 2 or, where no access before it races, by one of the rows 5 to 12.
 ///
 /// # Panics
 ///
-/// Where the archive that is linked is of version 1 of the C interface.
+/// Where the archive that is linked is of an older version of the C interface, and the answer shows
+/// it.
 pub fn judge(trace: &Trace) -> Result<Verdict, Refusal> {
     let (mut workspace, mut first, mut second) = judge_buffers(trace);
     let told = raw::judge(
@@ -88,8 +102,7 @@ pub fn judge(trace: &Trace) -> Result<Verdict, Refusal> {
         &mut second,
     );
     let [s, t, links] = told.values.map(|value| value as usize);
-    let is_told = links <= MAX_LINKS || told.code == raw::REFUSED;
-    assert!(is_told, "{} is older than version {}: it tells no links", raw::ARCHIVE, raw::VERSION);
+    hold_version(links <= MAX_LINKS || told.code == raw::REFUSED, "it tells no links");
     match told.code {
         raw::CLEAN => Ok(Verdict::Clean { links }),
         raw::RACE => {
@@ -97,7 +110,7 @@ pub fn judge(trace: &Trace) -> Result<Verdict, Refusal> {
             second.truncate(t + 1);
             Ok(Verdict::Race { s, t, links, first, second })
         }
-        _ => Err(Refusal::told(told)),
+        _ => Err(refusal(trace, told)),
     }
 }
 
@@ -110,7 +123,7 @@ pub fn judge(trace: &Trace) -> Result<Verdict, Refusal> {
 /// let mut trace = Trace::default();
 /// trace.extend([Event::fork(0, 1), Event::read(1, 5), Event::halt(1), Event::read(0, 5)]);
 /// let told = cards(&trace)?.expect("no race");
-/// assert_eq!(told[5], Card { reads: 2, writes: 0, first: 1, last: 3 });
+/// assert_eq!(told[5], Card { reads: 2, writes: 0, sums: 0, first: 1, last: 3 });
 /// assert_eq!(told[6], Card::UNTOUCHED);
 ///
 /// trace.push(Event::write(0, 5));
@@ -121,9 +134,13 @@ pub fn judge(trace: &Trace) -> Result<Verdict, Refusal> {
 /// # Errors
 ///
 /// A refusal, exactly where [`judge`] gives it.
+///
+/// # Panics
+///
+/// As [`judge`] does.
 pub fn cards(trace: &Trace) -> Result<Option<Vec<Card>>, Refusal> {
     let (mut workspace, mut first, mut second) = judge_buffers(trace);
-    let mut cards = vec![Card::UNTOUCHED; LOCATIONS];
+    let mut cards = vec![UNMADE; LOCATIONS];
     let told = raw::judge_cards(
         trace.kinds(),
         trace.tasks(),
@@ -134,11 +151,18 @@ pub fn cards(trace: &Trace) -> Result<Option<Vec<Card>>, Refusal> {
         &mut cards,
     );
     match told.code {
-        raw::CLEAN => Ok(Some(cards)),
+        raw::CLEAN => {
+            // Those of an older archive are shorter, and so the last one is not reached.
+            hold_version(cards.last() != Some(&UNMADE), "its cards have no sums");
+            Ok(Some(cards))
+        }
         raw::RACE => Ok(None),
-        _ => Err(Refusal::told(told)),
+        _ => Err(refusal(trace, told)),
     }
 }
+
+/// No card: a trace has fewer events than that.
+const UNMADE: Card = Card { reads: u16::MAX, ..Card::UNTOUCHED };
 
 /// Whether event `p` reaches event `q`: they are the same, or a path leads from `p` to `q`, from
 /// each event to the same task's next one, from a fork to its child's first event, and from a halt
@@ -158,14 +182,32 @@ pub fn cards(trace: &Trace) -> Result<Option<Vec<Card>>, Refusal> {
 ///
 /// A refusal by one of the rows 1, 2 and 5 to 12; by row 13 where the trace keeps the rules, but
 /// `p` or `q` is not below the number of its events.
+///
+/// # Panics
+///
+/// As [`judge`] does.
 pub fn reaches(trace: &Trace, p: usize, q: usize) -> Result<bool, Refusal> {
     let mut workspace = vec![0; WORKSPACE + judged_events(trace)];
     let told = raw::ordering(trace.kinds(), trace.tasks(), trace.operands(), &mut workspace, p, q);
     match told.code {
         raw::NO => Ok(false),
         raw::YES => Ok(true),
-        _ => Err(Refusal::told(told)),
+        _ => Err(refusal(trace, told)),
     }
+}
+
+/// The refusal that a call over a trace told. An older archive refuses sums for their kind.
+fn refusal<const VALUES: usize>(trace: &Trace, told: raw::Told<VALUES>) -> Refusal {
+    let refusal = Refusal::told(told);
+    let is_known = |event: Event| event.kind().is_some();
+    let is_wrong = refusal.row == 5 && trace.event(refusal.position).is_some_and(is_known);
+    hold_version(!is_wrong, "it knows no sums");
+    refusal
+}
+
+/// Panics where an answer shows that the archive is older than these bindings.
+fn hold_version(holds: bool, lacking: &str) {
+    assert!(holds, "{} is older than version {}: {lacking}", raw::ARCHIVE, raw::VERSION);
 }
 
 /// The workspace and the two order buffers.

@@ -24,6 +24,25 @@ fn layout() {
     assert_eq!(Trace::from_binary(&none), Ok(Trace::default()));
 }
 
+/// Each kind has its byte. The checksum was computed by zlib.
+#[test]
+fn kinds() {
+    let events = [
+        Event::read(0, 5),
+        Event::write(0, 5),
+        Event::fork(0, 1),
+        Event::sum(1, 1_023),
+        Event::halt(1),
+        Event::join(0, 1),
+    ];
+    let trace: Trace = events.into_iter().collect();
+    let bytes = trace.to_binary().expect("slices of one length");
+    assert_eq!(bytes[4..10], [0, 1, 2, 5, 4, 3]);
+    assert_eq!(bytes[bytes.len() - 4..], [0xee, 0x82, 0xc1, 0xa3]);
+    assert_eq!(Trace::from_binary(&bytes).as_ref(), Ok(&trace));
+    assert_eq!(judge(&trace), Ok(Verdict::Clean { links: 1 }));
+}
+
 #[test]
 fn every_truncation_is_told() {
     for n in 0..EXAMPLE.len() {

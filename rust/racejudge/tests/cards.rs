@@ -3,26 +3,35 @@
 use racejudge::raw::{self, Told};
 use racejudge::{cards, Card, Event, Refusal, Trace, LOCATIONS, MAX_EVENTS};
 
-/// A child writes location 5 and reads the last one; its parent joins it, reads 5 and writes 0. The
-/// child's number is no location that is touched.
-const CLEAN: [Event; 8] = [
+/// A child adds to location 7 and to 5, which it writes before; it reads the last one. Its parent adds
+/// to 7 before it joins the child, reads 5, writes 0 and adds to 5. The child's number is no location
+/// that is touched.
+const CLEAN: [Event; 12] = [
     Event::fork(0, 6),
+    Event::sum(6, 7),
     Event::write(6, 5),
     Event::read(6, 1_023),
+    Event::sum(6, 5),
     Event::halt(6),
+    Event::sum(0, 7),
     Event::join(0, 6),
     Event::read(0, 5),
     Event::read(0, 5),
     Event::write(0, 0),
+    Event::sum(0, 5),
 ];
-const TOUCHED: [(usize, Card); 3] =
-    [(0, card(0, 1, 7, 7)), (5, card(2, 1, 1, 6)), (1_023, card(1, 0, 2, 2))];
+const TOUCHED: [(usize, Card); 4] = [
+    (0, card([0, 1, 0], 10, 10)),
+    (5, card([2, 1, 2], 2, 11)),
+    (7, card([0, 0, 2], 1, 6)),
+    (1_023, card([1, 0, 0], 3, 3)),
+];
 
 const RACE: [Event; 4] = [Event::fork(0, 1), Event::write(1, 5), Event::halt(1), Event::read(0, 5)];
 const REFUSED: [Event; 2] = [Event::write(0, 5), Event::read(1, 5)];
 
-const fn card(reads: u16, writes: u16, first: u16, last: u16) -> Card {
-    Card { reads, writes, first, last }
+const fn card([reads, writes, sums]: [u16; 3], first: u16, last: u16) -> Card {
+    Card { reads, writes, sums, first, last }
 }
 
 fn trace(events: &[Event]) -> Trace {
@@ -42,15 +51,24 @@ fn all(touched: &[(usize, Card)]) -> Vec<Card> {
 fn a_card_for_each_location() {
     assert_eq!(cards(&trace(&CLEAN)), Ok(Some(all(&TOUCHED))));
     assert_eq!(cards(&Trace::default()), Ok(Some(all(&[]))));
-    assert_eq!(cards(&trace(&[Event::read(0, 0)])), Ok(Some(all(&[(0, card(1, 0, 0, 0))]))));
+    for (event, counts) in [
+        (Event::read(0, 0), [1, 0, 0]),
+        (Event::write(0, 0), [0, 1, 0]),
+        (Event::sum(0, 0), [0, 0, 1]),
+    ] {
+        assert_eq!(cards(&trace(&[event])), Ok(Some(all(&[(0, card(counts, 0, 0))]))));
+    }
 }
 
 #[test]
 fn every_event_touches_one_location() {
     let (most, last) = (MAX_EVENTS as u16, MAX_EVENTS as u16 - 1);
-    for (event, card) in
-        [(Event::read(0, 7), card(most, 0, 0, last)), (Event::write(0, 7), card(0, most, 0, last))]
-    {
+    for (event, counts) in [
+        (Event::read(0, 7), [most, 0, 0]),
+        (Event::write(0, 7), [0, most, 0]),
+        (Event::sum(0, 7), [0, 0, most]),
+    ] {
+        let card = card(counts, 0, last);
         assert_eq!(cards(&trace(&vec![event; MAX_EVENTS])), Ok(Some(all(&[(7, card)]))));
         assert_eq!(card.accesses(), MAX_EVENTS);
         assert_eq!(card.span(), Some((0, MAX_EVENTS - 1)));
@@ -68,8 +86,9 @@ fn no_cards_of_other_traces() {
 /// What a card says by its methods.
 #[test]
 fn accesses_and_span() {
-    let full = card(u16::MAX, u16::MAX, 0, 65_534);
-    assert_eq!((full.accesses(), full.span()), (131_070, Some((0, 65_534))));
+    let full = card([u16::MAX; 3], 0, 65_534);
+    assert_eq!((full.accesses(), full.span()), (196_605, Some((0, 65_534))));
+    assert_eq!(card([1, 20, 300], 0, 0).accesses(), 321);
     assert_eq!((Card::UNTOUCHED.accesses(), Card::UNTOUCHED.span()), (0, None));
 }
 
@@ -89,7 +108,7 @@ impl Lent {
             workspace: vec![7; raw::WORKSPACE + events],
             first: vec![7; events],
             second: vec![7; events],
-            cards: vec![card(7, 7, 7, 7); cards],
+            cards: vec![card([7; 3], 7, 7); cards],
         }
     }
 

@@ -1,6 +1,8 @@
 //! The numbers of the C header, which the bindings have to say once more.
 
-use racejudge::{raw, Card, Kind, LOCATIONS, MAX_EVENTS, MAX_LINKS, MAX_TEXT_EVENTS, TEXT_BYTES};
+use racejudge::{
+    raw, Card, Kind, Refusal, LOCATIONS, MAX_EVENTS, MAX_LINKS, MAX_TEXT_EVENTS, TEXT_BYTES,
+};
 use std::mem::offset_of;
 
 const HEADER: &str = include_str!("../../../include/racejudge.h");
@@ -28,6 +30,7 @@ fn a_card() {
     let fields = [
         ("reads", offset_of!(Card, reads)),
         ("writes", offset_of!(Card, writes)),
+        ("sums", offset_of!(Card, sums)),
         ("first", offset_of!(Card, first)),
         ("last", offset_of!(Card, last)),
     ];
@@ -68,8 +71,15 @@ fn codes() {
 
 #[test]
 fn kinds() {
-    let kinds = (0..5).map(|number| Kind::try_from(number).expect("a kind").to_string());
-    let names: Vec<String> =
-        kinds.map(|word| format!("RACEJUDGE_{}", word.to_uppercase())).collect();
+    let names = Kind::ALL.map(|kind| format!("RACEJUDGE_{}", kind.to_string().to_uppercase()));
     says(format!("enum {{ {} }};", names.join(", ")));
+    says(format!("*   kinds     {} .. {}\n", names[0], names[names.len() - 1]));
+}
+
+/// The clauses of the table, as far as the header has the same words.
+#[test]
+fn refusals() {
+    for row in [5, 6, 7, 8, 9, 10, 11, 12] {
+        says(format!("\n *   {row:>2}  {}\n", Refusal { row, position: 0 }.meaning()));
+    }
 }

@@ -27,14 +27,14 @@ impl Noise {
 
     /// An event of small numbers, so that rules are kept now and then.
     fn event(&mut self) -> Event {
-        let [kind, task, operand] = [6, 3, 3].map(|bound| self.below(bound));
+        let [kind, task, operand] = [7, 3, 3].map(|bound| self.below(bound));
         Event { kind: kind as u8, task: task as u16, operand: operand as u16 }
     }
 
     /// A line of the form, or nearly.
     fn line(&mut self) -> String {
         let [a, b, c] = [3, 3, 70_000].map(|bound| self.below(bound));
-        let form = ["r(V", "w(V", "fork(T", "join(T", "halt(T"][self.below(5)];
+        let form = ["r(V", "w(V", "fork(T", "join(T", "halt(T", "s(V"][self.below(6)];
         format!("T{a}|{form}{b})|{c}\n")
     }
 }

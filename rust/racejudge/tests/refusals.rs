@@ -52,12 +52,14 @@ fn rows_3_and_4_which_only_a_lender_meets() {
 fn rows_5_to_12() {
     let (tasks, locations) = (TASKS as u16, LOCATIONS as u16);
     for (last, row) in [
-        (Event { kind: 5, task: 0, operand: 0 }, 5),
+        (Event { kind: 6, task: 0, operand: 0 }, 5),
         (Event { kind: 255, task: 9, operand: 9 }, 5),
         (Event::read(1, 0), 7),
+        (Event::sum(1, 0), 7),
         (Event::halt(u16::MAX), 7),
         (Event::read(0, locations), 8),
         (Event::write(0, u16::MAX), 8),
+        (Event::sum(0, locations), 8),
         (Event::fork(0, tasks), 9),
         (Event::fork(0, 0), 10),
         (Event::join(0, 1), 11),
@@ -69,7 +71,10 @@ fn rows_5_to_12() {
         long.push(last);
         refused(&trace(&long), row, MAX_EVENTS - 1);
     }
-    refused(&trace(&[Event::halt(0), FIRST]), 6, 1);
+    for after in [FIRST, Event::sum(0, 0), Event::sum(9, locations)] {
+        refused(&trace(&[Event::halt(0), after]), 6, 1);
+    }
+    refused(&trace(&[Event::halt(0), Event { kind: 6, task: 0, operand: 0 }]), 5, 1);
     refused(&trace(&[Event::fork(0, 1), Event::halt(1), Event::fork(0, 1)]), 10, 2);
 }
 

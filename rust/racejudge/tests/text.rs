@@ -99,6 +99,8 @@ fn lines_that_are_not_of_the_form() {
         "T0|r(T1)|1\n",
         "T0|fork(V1)|1\n",
         "T0|halt(T1)|1\n",
+        "T0|s(V1)|1\n",
+        "T0|sum(V1)|1\n",
         "t0|r(V1)|1\n",
         "T0|r(V1)|1\0\n",
         "T0|r(V1)|¹\n",

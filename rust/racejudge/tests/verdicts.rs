@@ -32,6 +32,71 @@ fn clean_traces() {
     assert_eq!(judge(&joined), Ok(Verdict::Clean { links: 1 }));
 }
 
+/// An access by a task, of a kind, to a location.
+type Access = fn(u16, u16) -> Event;
+
+const READ: Access = Event::read;
+const WRITE: Access = Event::write;
+const SUM: Access = Event::sum;
+
+/// The nine pairs of kinds, and whether accesses of the two to one location conflict.
+const PAIRS: [(Access, Access, bool); 9] = [
+    (READ, READ, false),
+    (READ, WRITE, true),
+    (READ, SUM, true),
+    (WRITE, READ, true),
+    (WRITE, WRITE, true),
+    (WRITE, SUM, true),
+    (SUM, READ, true),
+    (SUM, WRITE, true),
+    (SUM, SUM, false),
+];
+
+/// A child's access and its parent's, with the child joined between them or not.
+#[test]
+fn each_pair_of_kinds() {
+    let clean = |joins: &[Event]| Ok(Verdict::Clean { links: joins.len() });
+    for (one, other, conflict) in PAIRS {
+        for (joins, location) in [(&[][..], 5), (&[], 6), (&[Event::join(0, 1)], 5)] {
+            let start = [Event::fork(0, 1), one(1, 5), Event::halt(1)];
+            let events = [&start[..], joins, &[other(0, location)]].concat();
+            let wanted = match (joins, location) {
+                ([], 5) if conflict => {
+                    let (first, second) = (vec![0, 1, 3, 2], vec![0, 3, 1, 2]);
+                    Ok(Verdict::Race { s: 1, t: 3, links: 0, first, second })
+                }
+                _ => clean(joins),
+            };
+            assert_eq!(judge(&trace(&events)), wanted, "{events:?}");
+        }
+    }
+}
+
+/// Two children add to location 5 beside each other, and then their parent does something with it.
+#[test]
+fn a_counter_is_read_once_all_are_joined() {
+    let counted = [
+        Event::fork(0, 1),
+        Event::sum(1, 5),
+        Event::halt(1),
+        Event::fork(0, 2),
+        Event::sum(2, 5),
+        Event::sum(2, 5),
+        Event::halt(2),
+        Event::join(0, 2),
+    ];
+    let judged = |more: &[Event]| judge(&trace(&[&counted, more].concat()));
+    for last in [Event::read(0, 5), Event::write(0, 5)] {
+        let told = judged(&[last]);
+        assert!(matches!(told, Ok(Verdict::Race { s: 1, t: 8, .. })), "{told:?}");
+        assert_eq!(judged(&[Event::join(0, 1), last]), Ok(Verdict::Clean { links: 1 }));
+    }
+    assert_eq!(judged(&[Event::sum(0, 5)]), Ok(Verdict::Clean { links: 1 }));
+    // A sum that may stand beside others hides none of them.
+    let told = judged(&[Event::sum(0, 5), Event::read(0, 5)]);
+    assert!(matches!(told, Ok(Verdict::Race { s: 1, t: 9, .. })), "{told:?}");
+}
+
 #[test]
 fn paths() {
     let trace = trace(&WRITES_TWICE);
@@ -90,6 +155,7 @@ fn document_01s_notation() {
         (Event::fork(0, 1), "0 fork 1"),
         (Event::join(65_535, 0), "65535 join 0"),
         (Event::halt(1), "1 halt"),
+        (Event::sum(0, 5), "0 sum 5"),
         (Event { operand: 3, ..Event::halt(0) }, "0 halt 3"),
         (Event { kind: 9, task: 3, operand: 7 }, "3 kind-9 7"),
     ] {
@@ -99,11 +165,12 @@ fn document_01s_notation() {
 
 #[test]
 fn kinds_by_number() {
-    let kinds = [Kind::Read, Kind::Write, Kind::Fork, Kind::Join, Kind::Halt];
+    let kinds = [Kind::Read, Kind::Write, Kind::Fork, Kind::Join, Kind::Halt, Kind::Sum];
     for number in 0..=255 {
         let kind = kinds.get(usize::from(number)).copied();
         assert_eq!(Kind::try_from(number).ok(), kind);
         assert_eq!(kind.map_or(number, Kind::number), number);
     }
-    assert_eq!(kinds.map(Kind::is_access), [true, true, false, false, false]);
+    assert_eq!(kinds, Kind::ALL);
+    assert_eq!(kinds.map(Kind::is_access), [true, true, false, false, false, true]);
 }

@@ -166,7 +166,7 @@ impl Peers {
     /// The judge with cards must find the trace clean. Its cards and those of the pass must be the
     /// slow ones.
     pub fn agree_on_cards(&mut self, trace: &Trace) {
-        let dirt = Record { reads: 7, writes: 7, first: 7, last: 7 };
+        let dirt = Record { reads: 7, writes: 7, sums: 7, first: 7, last: 7 };
         let wanted: Vec<Record> = cards(trace).into_iter().map(Record::from).collect();
         self.cards.fill(dirt);
         let told = self.call_with_cards(trace);

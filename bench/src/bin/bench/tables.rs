@@ -58,6 +58,7 @@ fn over_union_find(workload: &str) -> Option<f64> {
         "chains of 8 climbed often" => Some(1.0),
         "chains of 7 grown 15 times" => Some(1.0),
         "random, 1,024 locations" => Some(0.55),
+        "counters that all tasks add to" => Some(1.0),
         "race at the end, early partner" => Some(0.55),
         "race at the end, late partner" => Some(1.0),
         "race at event 3" => None,

@@ -30,9 +30,10 @@ impl Cell for u8 {
 }
 
 impl Cell for Record {
-    const NUMBERS: usize = 4;
+    const NUMBERS: usize = 5;
     fn of(numbers: &[u16]) -> Self {
-        Record { reads: numbers[0], writes: numbers[1], first: numbers[2], last: numbers[3] }
+        let [reads, writes, sums, first, last] = *numbers else { panic!("five numbers") };
+        Record { reads, writes, sums, first, last }
     }
 }
 

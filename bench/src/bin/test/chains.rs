@@ -185,9 +185,10 @@ fn refusals(test: &mut Test) {
     let chain = built(|b| grow(b, 5));
     let n = chain.len();
     for (event, row) in [
-        ((0, 5, 0), 5),
+        ((0, NO_KIND, 0), 5),
         ((1, READ, 7), 7),
         ((0, READ, 1_024), 8),
+        ((0, SUM, 1_024), 8),
         ((0, FORK, 1_024), 9),
         ((0, FORK, 1), 10),
         ((0, JOIN, 1), 11),
@@ -225,7 +226,7 @@ fn refusals(test: &mut Test) {
 /// task 0 in it, so no race is found over more.
 fn climbs(test: &mut Test) {
     let trace = binomial(MAX_EVENTS, &mut test.rng);
-    let first = trace.kinds.iter().position(|&kind| kind <= WRITE).expect("an access");
+    let first = trace.kinds.iter().position(|&kind| is_access(kind)).expect("an access");
     known(test.ordering(&trace, first, MAX_EVENTS - 1), Ordering::Yes, &trace);
     let trace = built(|b| {
         let mut work = |b: &mut Builder, path: usize| {

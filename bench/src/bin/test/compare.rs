@@ -3,6 +3,7 @@
 //! was met.
 
 use crate::buffer::{dirt, Buffer, Cell};
+use crate::meaning;
 use crate::watch::watched;
 use racejudge_bench::ancestors::{Ancestors, Outcome};
 use racejudge_bench::extent::{Extent, LIMITS};
@@ -73,7 +74,12 @@ pub struct Test {
     links: [usize; MAX_LINKS + 1],
     /// The greatest of the traces that were found clean.
     extent: Extent,
+    /// How often it was held to what an answer means: clean, and race.
+    meant: [usize; 2],
 }
+
+/// Up to so many events a trace is held to what its answer means.
+const SHORT: usize = 60;
 
 impl Test {
     pub fn new(seed: u64) -> Self {
@@ -89,6 +95,7 @@ impl Test {
             ordered: Counts::default(),
             links: [0; MAX_LINKS + 1],
             extent: Extent::default(),
+            meant: [0; 2],
         }
     }
 
@@ -115,6 +122,7 @@ impl Test {
             self.extent = self.extent.max(Extent::of(trace));
         }
         self.same_race(trace, judged);
+        self.same_meaning(trace, &wanted);
         let wanted = wanted.with_cards(trace, lent[3]);
         let carded = Answer::from(held(self.judged_with_cards(trace, lent, &wanted)));
         self.carded.count(carded);
@@ -190,6 +198,20 @@ impl Test {
         if said != wanted {
             mismatch(&format!("FastTrack said {said:?}, wanted {wanted:?}\non {kept}"));
         }
+    }
+
+    /// What the answer means must hold of the orders of the events.
+    fn same_meaning(&mut self, trace: &Trace, wanted: &Outcome<Answer>) {
+        let meant = match wanted.said {
+            Answer::Refused(..) => return,
+            _ if trace.len() > SHORT => return,
+            Answer::Clean => 0,
+            Answer::Race(..) => 1,
+        };
+        if let Some(fault) = meaning::fault(&mut self.rng, trace, wanted) {
+            mismatch(&format!("{:?}, but {fault}\non {trace}", wanted.said));
+        }
+        self.meant[meant] += 1;
     }
 
     /// The pass by hand knows no rules either; of a clean trace it must make the same cards.
@@ -296,7 +318,9 @@ impl Test {
         }
         table += &line("calls", &Counts::sum);
         let links = self.links.map(|count| format!(" {count}"));
-        format!("{table}links of the judge, 0 to {MAX_LINKS}:{}\n", links.concat())
+        table += &format!("links of the judge, 0 to {MAX_LINKS}:{}\n", links.concat());
+        let [clean, race] = self.meant;
+        table + &format!("held to what reads see: {clean} clean traces, {race} races\n")
     }
 
     /// What a call can give but never gave, or the limits if they were not met.
@@ -308,7 +332,8 @@ impl Test {
         let never = self.links.iter().position(|&count| count == 0);
         let links = never.map(|links| format!("{links} links"));
         let limits = (self.extent != LIMITS).then(|| format!("{LIMITS:?}, but {:?}", self.extent));
-        judged.or(carded).or(ordered).or(links).or(limits)
+        let meant = self.meant.contains(&0).then(|| "what an answer means".to_string());
+        judged.or(carded).or(ordered).or(links).or(limits).or(meant)
     }
 
     pub fn closing_line(&self, translated: usize) -> String {

@@ -2,6 +2,7 @@
 //! many events at a time, each place in a trace.
 
 use crate::compare::{known, needed, Test};
+use crate::sums::CONFLICTING;
 use racejudge_bench::builder::Builder;
 use racejudge_bench::cards::cards;
 use racejudge_bench::extent::{Extent, LIMITS};
@@ -123,7 +124,7 @@ fn card_lengths(test: &mut Test) {
         (&[][..], Answer::Clean),
         (&race[..3], Answer::Clean),
         (&race[..], Answer::Race(1, 3)),
-        (&[(0, 5, 0)], Answer::Refused(5, 0)),
+        (&[(0, NO_KIND, 0)], Answer::Refused(5, 0)),
         (&[(1, READ, 0)], Answer::Refused(7, 0)),
         (&[(0, READ, 1_024)], Answer::Refused(8, 0)),
     ] {
@@ -141,9 +142,11 @@ fn card_lengths(test: &mut Test) {
 fn full_cards(test: &mut Test) {
     const MOST: u16 = MAX_EVENTS as u16;
     for location in [0, LOCATIONS as u16 - 1] {
-        for (kind, reads, writes) in [(READ, MOST, 0), (WRITE, 0, MOST)] {
+        for (kind, [reads, writes, sums]) in
+            [(READ, [MOST, 0, 0]), (WRITE, [0, MOST, 0]), (SUM, [0, 0, MOST])]
+        {
             let trace = Trace::of(&vec![(0, kind, location); MAX_EVENTS]);
-            let card = Card { reads, writes, first: 0, last: MOST - 1 };
+            let card = Card { reads, writes, sums, first: 0, last: MOST - 1 };
             known(cards(&trace)[location as usize], card, &trace);
             known(test.judge(&trace), Answer::Clean, &trace);
         }
@@ -179,26 +182,37 @@ fn slice_lengths(test: &mut Test) {
 /// More than two blocks of any judge that looks at many events at a time.
 const PLACES: usize = 300;
 
-/// Each event in turn breaks a rule, is raced with, or races.
+/// Each event in turn breaks a rule, is raced with, or races, among reads and among sums.
 fn places(test: &mut Test) {
     for p in 0..PLACES {
         flaws_at(test, p);
     }
-    for s in 1..PLACES {
-        let mut child = vec![(1, READ, 3); PLACES];
-        child[0] = (0, FORK, 1);
-        child[s] = (1, WRITE, 7);
-        child.extend([(1, HALT, 0), (0, READ, 7)]);
-        let trace = Trace::of(&child);
-        known(test.judge(&trace), Answer::Race(s, PLACES + 1), &trace);
+    for (one, other) in CONFLICTING {
+        for place in 1..PLACES {
+            let others = [READ, SUM][place % 2];
+            raced_with_at(test, place, one, other, others);
+            races_at(test, place + 2, one, other, others);
+        }
     }
-    for t in 3..PLACES {
-        let mut parent = vec![(0, READ, 3); PLACES];
-        parent[..3].copy_from_slice(&[(0, FORK, 1), (1, READ, 7), (1, HALT, 0)]);
-        parent[t] = (0, WRITE, 7);
-        let trace = Trace::of(&parent);
-        known(test.judge(&trace), Answer::Race(1, t), &trace);
-    }
+}
+
+/// The child's event s is raced with by the last one.
+fn raced_with_at(test: &mut Test, s: usize, one: u8, other: u8, others: u8) {
+    let mut child = vec![(1, others, 3); PLACES];
+    child[0] = (0, FORK, 1);
+    child[s] = (1, one, 7);
+    child.extend([(1, HALT, 0), (0, other, 7)]);
+    let trace = Trace::of(&child);
+    known(test.judge(&trace), Answer::Race(s, PLACES + 1), &trace);
+}
+
+/// The parent's event t races with the child's only one.
+fn races_at(test: &mut Test, t: usize, one: u8, other: u8, others: u8) {
+    let mut parent = vec![(0, others, 3); PLACES + 2];
+    parent[..3].copy_from_slice(&[(0, FORK, 1), (1, one, 7), (1, HALT, 0)]);
+    parent[t] = (0, other, 7);
+    let trace = Trace::of(&parent);
+    known(test.judge(&trace), Answer::Race(1, t), &trace);
 }
 
 /// Event p breaks a rule, or lets the next one break it.
@@ -206,12 +220,14 @@ fn flaws_at(test: &mut Test, p: usize) {
     const ANY: Event = (0, READ, 3);
     const LAST: u16 = u16::MAX;
     let at_once = [
-        ((0, 5, 0), 5),
+        ((0, NO_KIND, 0), 5),
         ((0, 255, 3), 5),
         ((1, READ, 3), 7),
+        ((1, SUM, 3), 7),
         ((LAST, READ, 3), 7),
         ((0, READ, 1_024), 8),
         ((0, WRITE, LAST), 8),
+        ((0, SUM, 1_024), 8),
         ((0, FORK, 1_024), 9),
         ((0, FORK, 0), 10),
         ((0, JOIN, 1), 11),
@@ -220,7 +236,9 @@ fn flaws_at(test: &mut Test, p: usize) {
     ];
     let next = [
         ([(0, HALT, 0), ANY], 6),
+        ([(0, HALT, 0), (0, SUM, 3)], 6),
         ([(0, HALT, 0), (LAST, READ, 3)], 6),
+        ([(0, HALT, 0), (0, NO_KIND, 3)], 5),
         ([(0, HALT, 0), (LAST, HALT, 0)], 6),
         ([(0, FORK, 1), ANY], 7),
         ([(0, FORK, 1), (1, FORK, 1)], 10),

@@ -1,15 +1,17 @@
 //! Compares the linked judges with the all-ancestors judge, on document 01's runs, on every short
-//! trace, at the limits, on chains of joins, on long traces and on random ones, whole and damaged;
-//! and the library's translation of texts with the slow judge's own. The first difference is printed
-//! with its trace or text and ends the test with status 1. `--seed N` draws others, `--times N` draws
-//! more.
+//! trace, at the limits, on chains of joins, on counters, on long traces and on random ones, whole
+//! and damaged; and the library's translation of texts with the slow judge's own. The first
+//! difference is printed with its trace or text and ends the test with status 1. `--seed N` draws
+//! others, `--times N` draws more.
 
 mod buffer;
 mod chains;
 mod compare;
 mod document;
 mod limits;
+mod meaning;
 mod plants;
+mod sums;
 mod texts;
 mod watch;
 
@@ -23,12 +25,12 @@ use racejudge_bench::words;
 use racejudge_bench::workloads::WORKLOADS;
 use texts::Texts;
 
-/// Every trace of up to `more` further events over two locations, and each way to break a rule in
-/// the event after.
+/// Every trace of up to `more` further events over two locations, of which the first to be touched is
+/// 0, and each way to break a rule in the event after.
 fn every_short(test: &mut Test, trace: &Trace, forked: u16, more: usize) {
     test.both(trace, 1);
     for task in 0..=forked + 1 {
-        for (kind, operand) in short_events(forked) {
+        for (kind, operand) in short_events(trace, forked) {
             let mut line = Line::start();
             for p in 0..trace.len() {
                 let (task, kind, operand) = trace.event(p);
@@ -49,11 +51,15 @@ fn every_short(test: &mut Test, trace: &Trace, forked: u16, more: usize) {
     }
 }
 
-fn short_events(forked: u16) -> Vec<(u8, u16)> {
-    let mut events = vec![(READ, 0), (WRITE, 0), (READ, 1), (WRITE, 1), (READ, 1_024)];
+fn short_events(trace: &Trace, forked: u16) -> Vec<(u8, u16)> {
+    let mut events: Vec<(u8, u16)> = ACCESSES.iter().map(|&kind| (kind, 0)).collect();
+    if trace.kinds.iter().any(|&kind| is_access(kind)) {
+        events.extend(ACCESSES.iter().map(|&kind| (kind, 1)));
+    }
+    events.extend([(READ, 1_024), (SUM, 1_024)]);
     events.extend([(FORK, forked + 1), (FORK, forked), (FORK, 1_024)]);
     events.extend((0..=forked + 1).map(|task| (JOIN, task)));
-    events.extend([(HALT, 0), (HALT, 1), (5, 0)]);
+    events.extend([(HALT, 0), (HALT, 1), (NO_KIND, 0)]);
     events
 }
 
@@ -107,6 +113,7 @@ fn main() {
     every_short(&mut test, &Trace::default(), 0, 5);
     limits::all(&mut test);
     print(&format!("{} wrong tables of joins noticed\n", chains::all(&mut test)));
+    print(&format!("{} wrong judges of sums noticed\n", sums::all(&mut test)));
     long_traces(&mut test);
     random_traces(&mut test, times);
     let mut texts = Texts::new(seed as u64);

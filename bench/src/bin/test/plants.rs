@@ -2,7 +2,8 @@
 
 use crate::compare::{needed, Lent, Test, JUDGES};
 use crate::document::{
-    trace, JOINED_BY_WAY_OF_A_SIBLING, JOINS_A_SIBLING, TWO_READERS, WRITES_TWICE,
+    trace, COUNTED, JOINED_BY_WAY_OF_A_SIBLING, JOINS_A_SIBLING, SUM_AND_READ, SUM_AND_WRITE,
+    TWO_READERS, TWO_SUMS, WRITES_TWICE, WRITE_AMONG_SUMS,
 };
 use crate::texts::{wanted, Text, Texts, Wanted, ENOUGH};
 use racejudge_bench::ancestors::Outcome;
@@ -17,8 +18,9 @@ type Change<T> = fn(&mut Outcome<T>);
 const JOINS_TWICE: &str = "0 fork 1, 1 halt, 0 join 1, 0 join 1";
 
 /// A run, and what is made wrong of what is wanted: the answer, the cleared cells, an order, the
-/// links of a race, of a clean trace and of a refusal.
-const JUDGED: [(&str, &[Change<Answer>]); 4] = [
+/// links of a race, of a clean trace and of a refusal; and what is said where a sum is refused, is
+/// held against a sum, or is not held against a read or a write.
+const JUDGED: [(&str, &[Change<Answer>]); 9] = [
     (
         WRITES_TWICE,
         &[
@@ -33,7 +35,37 @@ const JUDGED: [(&str, &[Change<Answer>]); 4] = [
     (JOINS_A_SIBLING, LINKS),
     (JOINED_BY_WAY_OF_A_SIBLING, LINKS),
     (JOINS_TWICE, &[|wanted| wanted.links += 1]),
+    (
+        TWO_SUMS,
+        &[
+            |wanted| wanted.said = Answer::Refused(5, 1),
+            |wanted| race(wanted, 1, 3, [[0, 1, 3, 2], [0, 3, 1, 2]]),
+        ],
+    ),
+    (SUM_AND_READ, &[clean]),
+    (SUM_AND_WRITE, &[clean]),
+    (
+        WRITE_AMONG_SUMS,
+        &[
+            |wanted| race(wanted, 1, 5, [[0, 1, 5, 2, 3, 4], [0, 5, 1, 2, 3, 4]]),
+            |wanted| wanted.orders.as_mut().expect("a race").1.swap(2, 3),
+            clean,
+        ],
+    ),
+    (COUNTED, &[|wanted| race(wanted, 1, 4, [[0, 1, 4, 2, 3], [0, 4, 1, 2, 3]])]),
 ];
+
+/// What a judge says for whom the two accesses of the race do not conflict.
+fn clean(wanted: &mut Outcome<Answer>) {
+    wanted.said = Answer::Clean;
+    wanted.orders = None;
+}
+
+/// A race with these orders.
+fn race<const N: usize>(wanted: &mut Outcome<Answer>, s: usize, t: usize, orders: [[u16; N]; 2]) {
+    wanted.said = Answer::Race(s, t);
+    wanted.orders = Some((orders[0].to_vec(), orders[1].to_vec()));
+}
 
 /// Where there is one link.
 const LINKS: &[Change<Answer>] = &[|wanted| wanted.links -= 1, |wanted| wanted.links += 1];
@@ -41,7 +73,7 @@ const LINKS: &[Change<Answer>] = &[|wanted| wanted.links -= 1, |wanted| wanted.l
 /// A run, how many cards are lent, and what is made wrong of what is wanted: the answer, the cleared
 /// cells, each field of a card, the two that say that no event touches the location, the last card,
 /// the record behind it, cards where there are none, and the links.
-const CARDED: [(&str, usize, &[Change<Answer>]); 7] = [
+const CARDED: [(&str, usize, &[Change<Answer>]); 8] = [
     (
         TWO_READERS,
         LOCATIONS + 1,
@@ -50,6 +82,7 @@ const CARDED: [(&str, usize, &[Change<Answer>]); 7] = [
             |wanted| wanted.cleared += 1,
             |wanted| cards(wanted)[5].reads -= 1,
             |wanted| cards(wanted)[5].writes += 1,
+            |wanted| cards(wanted)[5].sums += 1,
             |wanted| cards(wanted)[5].first -= 1,
             |wanted| cards(wanted)[5].last -= 1,
             |wanted| cards(wanted)[6].first = 0,
@@ -82,6 +115,20 @@ const CARDED: [(&str, usize, &[Change<Answer>]); 7] = [
     (JOINED_BY_WAY_OF_A_SIBLING, LOCATIONS, LINKS),
     (JOINED_BY_WAY_OF_A_SIBLING, LOCATIONS - 1, &[|wanted| wanted.links += 1]),
     (JOINS_TWICE, LOCATIONS, &[|wanted| wanted.links += 1]),
+    (
+        COUNTED,
+        LOCATIONS,
+        &[
+            // All sums are left out, or one; are taken for writes, or for reads; are never the first,
+            // or the last.
+            |wanted| cards(wanted)[5].sums = 0,
+            |wanted| cards(wanted)[5].sums -= 1,
+            |wanted| cards(wanted)[5] = Card { writes: 4, sums: 0, ..cards(wanted)[5] },
+            |wanted| cards(wanted)[5] = Card { reads: 5, sums: 0, ..cards(wanted)[5] },
+            |wanted| cards(wanted)[5].first = 6,
+            |wanted| cards(wanted)[5].last = 6,
+        ],
+    ),
 ];
 
 fn cards(wanted: &mut Outcome<Answer>) -> &mut Vec<Card> {

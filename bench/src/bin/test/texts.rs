@@ -155,6 +155,9 @@ const LONGEST: &str = "T65535|fork(T65535)|65535\n";
 fn document(texts: &mut Texts) {
     expect(texts, DOCUMENT, Translation::Events(4));
     expect(texts, "", Translation::Events(0));
+    // No line makes a sum.
+    expect(texts, "T0|s(V1)|1\n", Translation::Refused(14, 0));
+    expect(texts, "T0|sum(V1)|1\n", Translation::Refused(14, 0));
     for cut in 1..DOCUMENT.len() {
         texts.translate(&DOCUMENT[..cut]);
     }

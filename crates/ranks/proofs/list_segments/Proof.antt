@@ -5,7 +5,7 @@ use borrow.Author.Needs.{needs}
 use lib.ListN.{length}
 use Rattle.trace.specs.Trace.{traceOf}
 use Rattle.stops.proofs.Standing.{stop-inside}
-use Rattle.ranks.proofs.Listing.{Listing, listing-begin, listing-stop, taken-movable, taken-turn, listing-broken}
+use Rattle.ranks.proofs.Listing.{Listing, listing-begin, listing-stop, taken-movable, taken-named, taken-turn, listing-broken}
 use Rattle.ranks.proofs.Listing.{listing-finish, list-few}
 use Rattle.ranks.proofs.list_segments.Statement.{statement}
 use Rattle.ranks.proofs.list_segments.Tie as tie
@@ -68,7 +68,10 @@ open-after-read c =
     (c .before .before .before .before .before .before .before .before .position .ensures) .inside
 
 open-after-requires : tie.Need-open-after-requires Inv-loop μ-loop
-open-after-requires c κs = list-few (c .before .before .before .before .before .before .before .before .before .before .before .loop .inv .list-at)
+open-after-requires c κs = (
+  list-few (c .before .before .before .before .before .before .before .before .before .before .before .loop .inv .list-at),
+  taken-named _ _ _ (c .before .before .before .before .before .before .take .ensures) (c .before .before .before .if1 .left),
+)
 
 loop-again : tie.Need-loop-again Inv-loop μ-loop
 loop-again c =

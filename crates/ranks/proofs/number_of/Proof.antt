@@ -11,7 +11,7 @@ open-before-requires : tie.Need-open-before-requires
 open-before-requires c κs =
     let start = c .before .before in
     let less = segments-less (start .args .p) (omega arith) (start .pre) in
-    (less .within, less .few)
+    (less .within, less .named, less .few)
 
 own-segment-requires : tie.Need-own-segment-requires
 own-segment-requires c κs =

@@ -19,7 +19,9 @@ open-before-spec =
     μ-loop
     (λ c. count-begin _ _)
     (λ c. search needs)
-    (λ c κs. count-few (c .before .before .loop .inv) (c .before .before .before .before .pre .1))
+    (λ c κs.
+    let start = c .before .before .before .before in
+    (count-few (c .before .before .loop .inv) (start .pre .2), start .pre .1 _ (c .before .loop-test .taken)))
     (λ c. search needs)
     (λ c. search needs)
     (λ c. count-turn (c .before .before .before .loop .inv) (c .before .before .loop-test .taken) _ (c .open-after .ensures))

@@ -37,8 +37,10 @@ slice-write-ws c = let long = c .before .before .before .before .before .loop .i
 
 open-after-requires : tie.Need-open-after-requires Inv-loop μ-loop
 open-after-requires c κs =
-    let at = c .before .before .before .before .before .before in
-    count-few (at .loop .inv .counting) (at .before .before .before .pre .0 .few)
+    let turn = c .before .before .before .before .before in
+    let at = turn .before in
+    let segments = at .before .before .before .pre .0 in
+    (count-few (at .loop .inv .counting) (segments .few), segments .named _ (turn .loop-test .taken))
 
 loop-again : tie.Need-loop-again Inv-loop μ-loop
 loop-again c =

@@ -1,12 +1,8 @@
 -- `scan::keep` meets its contract. Assumes nothing.
 use borrow.Author.Needs.{needs}
-use Rattle.scan.specs.Tables.{keptIn}
+use Rattle.scan.proofs.Largest.{kept-plain}
 use Rattle.scan.proofs.keep.Statement.{statement}
 use Rattle.scan.proofs.keep.Tie as tie
-
-returns : tie.Need-returns
-unfolding keptIn
-returns c = cc
 
 pub keep-spec : {M : Type 1} → statement M
 keep-spec =
@@ -18,4 +14,4 @@ keep-spec =
     (λ c κs. search needs)
     (λ c κs. search needs)
     (λ c. search needs)
-    returns)
+    (λ c. search kept-plain))

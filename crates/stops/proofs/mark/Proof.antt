@@ -1,26 +1,26 @@
 -- `stops::mark` meets its contract: before each turn the marks of the first p events are filled in. Assumes nothing.
-use Prim.Native.Nat.{ℕ, _≤_, _-_, _<_}
+use Prim.Native.Nat.{ℕ, _+_, _≤_, _-_, _<_}
 use mathlib.Core.Path.{_≡_, refl, _∙_}
 use mathlib.Core.List.{List}
 use native.Mathlib.Omega.{arith}
 use borrow.Author.Needs.{needs}
 use lib.ListN.{length, getD, set, length-set}
 use lib.Seq.{getD-set-same, getD-set-other}
-use Rattle.trace.specs.Trace.{traceOf}
+use Rattle.trace.specs.Trace.{traceOf, isAccess}
 use Rattle.trace.proofs.Tests.{either}
 use Rattle.cells.specs.Cells.{Filled, NUMBER}
 use Rattle.cells.proofs.Filling.{filled-none, filled-more}
 use Rattle.stops.specs.Stops.{isStop, markOf}
-use Rattle.stops.proofs.Quiet.{stop-zero}
+use Rattle.stops.proofs.Quiet.{stop-zero, mark-is}
 use Rattle.stops.proofs.mark.Statement.{statement}
 use Rattle.stops.proofs.mark.Tie as tie
 
 abbrev Inv-loop : tie.InvT-loop
-Inv-loop kinds tasks operands ws₀ p₀ ws p =
-    (0 < p) × (p ≤ length kinds) × Filled NUMBER p (markOf (isStop (traceOf kinds tasks operands))) ws₀ ws
+Inv-loop kinds tasks operands ws₀ previous₀ p₀ ws previous p =
+    (0 < p) × (p ≤ length kinds) × (previous ≡ isAccess (getD kinds (p - 1) 0)) × Filled NUMBER p (markOf (isStop (traceOf kinds tasks operands))) ws₀ ws
 
 abbrev μ-loop : tie.MeasureT-loop
-μ-loop kinds tasks operands ws₀ p₀ ws p = length kinds - p
+μ-loop kinds tasks operands ws₀ previous₀ p₀ ws previous p = length kinds - p
 
 -- The first mark is stored before the loop: it is filled in,
 first-filled : (value : ℕ → ℕ) (c : List ℕ) → getD c NUMBER 0 ≡ value 0 → Filled NUMBER 1 value c c
@@ -42,19 +42,27 @@ returns c = let e : length (c .before .before .before .before .before .args .kin
 
 loop-holds : tie.Need-loop-holds Inv-loop μ-loop
 loop-holds c =
-    let args = c .before .before .before .before .before .args in
+    let args = c .before .before .before .before .before .before .before .args in
     let stop = stop-zero (traceOf (args .kinds .now) (args .tasks .now) (args .operands .now)) in
-    (omega arith, search needs, first-filled _ _ (getD-set-same (args .ws .now) NUMBER 1 0 (omega arith) ∙ rw stop))
+    (omega arith, search needs, c .is-access .ensures, first-filled _ _ (getD-set-same (args .ws .now) NUMBER 1 0 (omega arith) ∙ rw stop))
 
 loop-again : tie.Need-loop-again Inv-loop μ-loop
 loop-again c =
-    (omega arith, search needs, filled-more (c .before .before .loop .inv .2) _ (rw length-set (search needs)) (c .stop-at .ensures))
+    let asked = c .before in
+    let turn = asked .before .before .before in
+    let inv = turn .loop .inv in
+    let e : turn .loop .p + 1 - 1 ≡ turn .loop .p = omega arith in (
+      omega arith,
+      search needs,
+      rw e (asked .is-access2 .ensures),
+      filled-more (inv .3) _ (rw length-set (search needs)) (mark-is _ _ _ _ _ _ _ (inv .0) (inv .2) (asked .is-access2 .ensures) (c .stop-at .ensures)),
+    )
 
 returns-2 : tie.Need-returns-2 Inv-loop μ-loop
 returns-2 c =
     let inv = c .before .loop .inv in
-    let e : c .before .loop .p ≡ length (c .before .before .before .before .before .before .before .args .kinds .now) = omega arith in
-    rw (← e) (first-stored 1 (inv .0) (inv .2))
+    let e : c .before .loop .p ≡ length (c .before .before .before .before .before .before .before .before .before .args .kinds .now) = omega arith in
+    rw (← e) (first-stored 1 (inv .0) (inv .3))
 
 pub mark-spec : {M : Type 1} → statement M
 mark-spec =
@@ -64,13 +72,17 @@ mark-spec =
     μ-loop
     returns
     (λ c. search needs)
+    (λ c. search needs)
+    (λ c κs. search needs)
     loop-holds
+    (λ c. search needs)
+    (λ c κs. search needs)
     (λ c κs. search needs)
     (λ c. search needs)
     (λ c. search needs)
-    (λ c. omega (arith, length-set (c .before .before .before .before .before .before .before .before .args .ws .now) NUMBER 1))
+    (λ c. omega (arith, length-set (c .before .before .before .before .before .before .before .before .before .before .before .before .args .ws .now) NUMBER 1))
     (λ c. search needs)
     (λ c. search needs)
     loop-again
-    (λ c. c .before .loop .inv .2 .long ∙ simp length-set)
+    (λ c. c .before .loop .inv .3 .long ∙ simp length-set)
     returns-2)

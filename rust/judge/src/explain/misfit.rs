@@ -4,6 +4,8 @@
 use super::form::{fitting, is_operation, Wanted};
 use super::refusal::Hint;
 
+/// What a recorder may write for a sum, which only the binary form has.
+const SUM_OPERATIONS: [&str; 3] = ["s", "sum", "add"];
 /// Operations of the STD format that the form does not have.
 const LOCK_OPERATIONS: [&str; 3] = ["acq", "rel", "req"];
 const OTHER_OPERATIONS: [&str; 6] = ["begin", "end", "branch", "enter", "exit", "dummy"];
@@ -81,6 +83,10 @@ const LETTERS: Hint = hint("", "Tasks are written with a large T, locations with
 const NUMBERS: Hint = hint(
     "the recorder numbers what it sees in another way",
     "Numbers are decimal, from 0 to 65,535, without leading zeros.",
+);
+const SUMS: Hint = hint(
+    "the recorder writes sums",
+    "No line of a text makes a sum. The binary form has them, as kind 5.",
 );
 const LOCKS: Hint = hint(
     "the trace is of the full STD format",
@@ -206,7 +212,9 @@ fn operation(bytes: &[u8]) -> Told {
     let name = start(bytes, u8::is_ascii_alphabetic);
     let small = name.to_ascii_lowercase();
     let is_among = |names: &[&str]| names.contains(&small.as_str());
-    if is_among(&LOCK_OPERATIONS) {
+    if is_among(&SUM_OPERATIONS) {
+        (format!("the operation {name} is not part of the form"), SUMS)
+    } else if is_among(&LOCK_OPERATIONS) {
         (format!("the operation {name} is not part of the form"), LOCKS)
     } else if is_among(&OTHER_OPERATIONS) {
         (format!("the operation {name} is not part of the form"), FULL_FORMAT)
@@ -293,6 +301,16 @@ mod tests {
         check("T0|Fork(T1)|1", true, 3, "the operation Fork has a large letter");
         check("T0|fOrk(T1)|1", true, 4, "the operation fOrk has a large letter");
         assert!(second(b"T0|rel(L1)|1", true).hint.advice.starts_with("Locks"));
+    }
+
+    #[test]
+    fn sums_are_known_to_be_of_the_binary_form() {
+        check("T0|s(V1)|1", true, 3, "the operation s is not part of the form");
+        check("T0|SUM(V1)|1", true, 3, "the operation SUM is not part of the form");
+        check("T0|add(V1)|1", true, 3, "the operation add is not part of the form");
+        let advice = second(b"T0|s(V1)|1", true).hint.advice;
+        assert!(advice.contains("kind 5"), "{advice}");
+        check("T0|su(V1)|1", true, 3, "the operation should be r, w, fork or join");
     }
 
     #[test]

@@ -3,7 +3,7 @@
 use super::page::Page;
 use super::ways::ways;
 use crate::answer;
-use crate::phrases::tasks;
+use crate::phrases::{tasks, verb};
 use crate::study::Scene;
 use crate::why::Why;
 use racejudge::{Kind, Refusal};
@@ -35,22 +35,57 @@ impl Race<'_> {
             "Both orders can happen. They differ only in the two events in brackets{more}:"
         ));
         page.rows(orders.iter().map(Order::row));
+        if let Some(difference) = self.difference(scene) {
+            page.say(&difference);
+        }
         self.outlook(page, scene);
     }
 
     fn head(&self, scene: &Scene) -> String {
         let Race { s, t, .. } = self;
-        let location = scene.trace.event(*t).map_or(0, |event| event.operand);
+        let location = self.location(scene);
+        let verb_of = |p| scene.kind(p).and_then(verb).unwrap_or("touches");
         let what = match (scene.kind(*s), scene.kind(*t)) {
-            (Some(Kind::Write), Some(Kind::Read)) => {
-                format!("Event {s} writes location {location}, event {t} reads it")
+            (Some(Kind::Write), Some(Kind::Write)) => {
+                format!("Events {s} and {t} both write location {location}")
             }
-            (Some(Kind::Read), _) => {
-                format!("Event {s} reads location {location}, event {t} writes it")
+            _ => {
+                let (one, other) = (verb_of(*s), verb_of(*t));
+                format!("Event {s} {one} location {location}, event {t} {other} it")
             }
-            _ => format!("Events {s} and {t} both write location {location}"),
         };
         format!("{what}, and nothing orders them:")
+    }
+
+    fn location(&self, scene: &Scene) -> u16 {
+        scene.trace.event(self.t).map_or(0, |event| event.operand)
+    }
+
+    /// What becomes of a sum in the two orders; nothing where the pair has none.
+    fn difference(&self, scene: &Scene) -> Option<String> {
+        let Race { s, t, .. } = *self;
+        let (sum, other) = match (scene.kind(s)?, scene.kind(t)?) {
+            (Kind::Sum, _) => (s, t),
+            (_, Kind::Sum) => (t, s),
+            _ => return None,
+        };
+        let is_read = scene.kind(other)? == Kind::Read;
+        // The sum counts where the read comes behind it, or where it comes behind the write. In the
+        // first order t comes behind s.
+        let behind = if is_read { other } else { sum };
+        let (with, without) = if behind == t { ("first", "second") } else { ("second", "first") };
+        let location = self.location(scene);
+        Some(if is_read {
+            format!(
+                "In the {with} order event {other} sees what event {sum} adds, in the {without} it \
+                 does not."
+            )
+        } else {
+            format!(
+                "Right after the two, location {location} holds what event {other} writes: in the \
+                 {with} order with what event {sum} adds, in the {without} without."
+            )
+        })
     }
 
     /// What would have ordered the two.

@@ -46,6 +46,20 @@ impl Canvas {
         ));
     }
 
+    /// A square with a plus in it.
+    pub fn sum(&mut self, (x, y): (i32, i32), radius: i32, class: &str) {
+        let (left, right, top, bottom) = (x - radius, x + radius, y - radius, y + radius);
+        self.put(format_args!(
+            "<path d=\"M{left} {top}L{right} {top}L{right} {bottom}L{left} {bottom}Z\" \
+             class=\"{class}\"/>\n"
+        ));
+        let arm = radius - 2;
+        let (left, right, top, bottom) = (x - arm, x + arm, y - arm, y + arm);
+        self.put(format_args!(
+            "<path d=\"M{left} {y}L{right} {y}M{x} {top}L{x} {bottom}\" class=\"plus\"/>\n"
+        ));
+    }
+
     /// A line through these points, round at its corners.
     pub fn line(&mut self, points: &[(i32, i32)], class: &str) {
         let path = rounded(points);

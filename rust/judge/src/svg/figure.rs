@@ -164,6 +164,7 @@ impl Figure<'_> {
             _ if mark == Some(Mark::Parted) => self.canvas.diamond(at, 8, "diamond"),
             Some(Kind::Write) => self.canvas.circle(at, radius, &format!("full {tone}")),
             Some(Kind::Read) => self.canvas.circle(at, radius, &format!("hollow {tone}")),
+            Some(Kind::Sum) => self.canvas.sum(at, radius, &format!("sum {tone}")),
             Some(Kind::Halt) => self.canvas.line(&[(x - 8, y), (x + 8, y)], &format!("bar {tone}")),
             _ => self.canvas.circle(at, 3, &format!("full {tone}")),
         }

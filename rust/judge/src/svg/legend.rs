@@ -4,6 +4,7 @@ use super::canvas::Canvas;
 use super::layout::{LABEL, MARGIN};
 use super::story::Story;
 use super::text::{width, wrap};
+use crate::phrases::has_sums;
 
 /// A sign is drawn around the middle of a box that is so wide.
 const SIGN: i32 = 34;
@@ -15,6 +16,7 @@ const LINE: i32 = 17;
 enum Sign {
     Write,
     Read,
+    Sum,
     Fork,
     Halt,
     Join,
@@ -41,10 +43,15 @@ fn signs(story: &Story) -> Vec<(Sign, String)> {
     let mut signs = vec![
         (Sign::Write, "w 3: writes location 3".into()),
         (Sign::Read, "r 3: reads location 3".into()),
+    ];
+    if has_sums(story.trace) {
+        signs.push((Sign::Sum, "s 3: adds to location 3".into()));
+    }
+    signs.extend([
         (Sign::Fork, "fork: a task begins".into()),
         (Sign::Halt, "halt: it ends".into()),
         (Sign::Join, "join: waits for the end".into()),
-    ];
+    ]);
     let Some((s, t)) = story.pair else { return signs };
     if story.why.is_some() {
         signs.push((Sign::ToS, format!("way to event {s}")));
@@ -81,6 +88,7 @@ fn draw(canvas: &mut Canvas, sign: &Sign, (x, y): (i32, i32)) {
     match sign {
         Sign::Write => canvas.circle((x, y), 5, "full plain"),
         Sign::Read => canvas.circle((x, y), 5, "hollow plain"),
+        Sign::Sum => canvas.sum((x, y), 5, "sum plain"),
         Sign::Fork => {
             canvas.line(&[(right, y - 11), (right, y + 11)], "line life plain");
             canvas.line(&[(right, y - 6), (left, y - 6), (left, y + 11)], "line life plain");

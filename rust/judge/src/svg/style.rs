@@ -43,6 +43,11 @@ font-size:17px;font-weight:700}
 .hollow.plain,.bar.plain{stroke:#333}
 .hollow.to-s,.bar.to-s{stroke:#0072b2}
 .hollow.to-t,.bar.to-t{stroke:#b87f00}
+.sum{fill:#009e73;stroke-width:2}
+.sum.pale{fill:#b5ddd0}
+.sum.to-s{stroke:#0072b2}
+.sum.to-t{stroke:#b87f00}
+.plus{fill:none;stroke:#fff;stroke-width:1.8}
 text.pale{fill:#9b9b9b}
 text.to-s{fill:#005a8c}
 text.to-t{fill:#7d5600}

@@ -2,7 +2,7 @@
 
 use super::story::{Mark, Story};
 use crate::answer;
-use crate::phrases::{capital, clean_before, deed, grouped};
+use crate::phrases::{capital, clean_before, deed, grouped, has_sums};
 use racejudge::{Event, Kind, Refusal, Verdict};
 
 /// What connects the two accesses of a race.
@@ -10,6 +10,8 @@ pub const NO_ORDER: &str = "no order";
 
 const NO_RACE: &str = "No race: where two tasks touch one location and one of them writes, \
     forks and joins order the two.";
+const NO_RACE_OF_SUMS: &str = "No race: where two tasks touch one location, forks and joins order \
+    the two, unless both read it or both add to it.";
 
 impl Story<'_> {
     /// What stands beside a marked event.
@@ -74,6 +76,7 @@ impl Story<'_> {
             Ok(Verdict::Clean { .. }) if self.trace.is_empty() => {
                 vec!["There are no events.".into()]
             }
+            Ok(Verdict::Clean { .. }) if has_sums(self.trace) => vec![NO_RACE_OF_SUMS.into()],
             Ok(Verdict::Clean { .. }) => vec![NO_RACE.into()],
             Ok(Verdict::Race { s, t, .. }) => self.race_summary(*s, *t),
             Err(refusal) => self.refusal_summary(refusal),
@@ -147,6 +150,7 @@ pub fn label(event: Event) -> String {
         Some(Kind::Fork) => format!("fork {operand}"),
         Some(Kind::Join) => format!("join {operand}"),
         Some(Kind::Halt) => "halt".into(),
+        Some(Kind::Sum) => format!("s {operand}"),
         None => format!("kind {kind}"),
     }
 }

@@ -21,8 +21,8 @@ Each FILE is a trace, as text or in the binary form. - is standard input.
   --          ends the options: what follows is a file, whatever its name
 
 The first line of the answer is that of `judge FILE`. Where it is clean, each location that was
-touched has a row: how many reads and writes it had, the first and the last event that touched it,
-and a bar that shows its accesses beside those of the busiest. The counts and the events are the
+touched has a row: how many reads, writes and sums it had, the first and the last event that touched
+it, and a bar that shows its accesses beside those of the busiest. The counts and the events are the
 proved library's own. Events count from 0, lines of a file from 1.
 
 Where it is not clean there are no cards, and the race or the refusal is explained.

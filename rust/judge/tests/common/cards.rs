@@ -10,6 +10,7 @@ pub struct Row {
     pub location: usize,
     pub reads: usize,
     pub writes: usize,
+    pub sums: usize,
     pub first: usize,
     pub last: usize,
     /// The lines of the first and the last event, where the file is a text.
@@ -18,7 +19,7 @@ pub struct Row {
 
 impl Row {
     pub fn accesses(&self) -> usize {
-        self.reads + self.writes
+        self.reads + self.writes + self.sums
     }
 }
 
@@ -27,7 +28,7 @@ pub fn counted(trace: &Trace, is_text: bool) -> Vec<Row> {
     let events: Vec<Event> = trace.events().collect();
     let mut touching: BTreeMap<u16, Vec<usize>> = BTreeMap::new();
     for (p, event) in events.iter().enumerate() {
-        if matches!(event.kind(), Some(Kind::Read | Kind::Write)) {
+        if matches!(event.kind(), Some(Kind::Read | Kind::Write | Kind::Sum)) {
             touching.entry(event.operand).or_default().push(p);
         }
     }
@@ -40,6 +41,7 @@ pub fn counted(trace: &Trace, is_text: bool) -> Vec<Row> {
             location: location.into(),
             reads: of(Kind::Read),
             writes: of(Kind::Write),
+            sums: of(Kind::Sum),
             first,
             last,
             lines: is_text.then(|| (line(first), line(last))),
@@ -54,7 +56,7 @@ pub fn busiest_first(mut rows: Vec<Row>) -> Vec<Row> {
     rows
 }
 
-/// The words have a table of these rows, with the bars that belong to them, and their sums beneath;
+/// The words have a table of these rows, with the bars that belong to them, and their totals beneath;
 /// where there is no row, they say so.
 #[track_caller]
 pub fn hold(words: &str, rows: &[Row]) {
@@ -70,11 +72,11 @@ pub fn hold(words: &str, rows: &[Row]) {
     assert!(words.lines().all(|line| line.len() <= 100), "too wide\n{words}");
     let times = |number| format!("{number} access{}", if number == 1 { "" } else { "es" });
     let (touched, all) = (rows.len(), times(rows.iter().map(Row::accesses).sum()));
-    let sums = format!(
+    let totals = format!(
         "\n\nTouched: {touched} of 1024 locations by {all}.\nThe longest bar stands for {}.\n",
         times(most)
     );
-    assert!(words.replace(',', "").contains(&sums), "no {sums} in\n{words}");
+    assert!(words.replace(',', "").contains(&totals), "no {totals} in\n{words}");
 }
 
 /// Where the numbers of a row end.
@@ -89,14 +91,16 @@ fn read(row: &str) -> (Row, usize) {
     assert!(bar.bytes().all(|mark| mark == b'#'), "{row}");
     let number = |word: &&str| word.replace(',', "").parse().expect("a number");
     let (lines, numbers) = match numbers.iter().map(number).collect::<Vec<usize>>()[..] {
-        [location, reads, writes, first, first_line, last, last_line] => {
-            (Some((first_line, last_line)), [location, reads, writes, first, last])
+        [location, reads, writes, sums, first, first_line, last, last_line] => {
+            (Some((first_line, last_line)), [location, reads, writes, sums, first, last])
         }
-        [location, reads, writes, first, last] => (None, [location, reads, writes, first, last]),
+        [location, reads, writes, sums, first, last] => {
+            (None, [location, reads, writes, sums, first, last])
+        }
         _ => panic!("{row}"),
     };
-    let [location, reads, writes, first, last] = numbers;
-    (Row { location, reads, writes, first, last, lines }, bar.len())
+    let [location, reads, writes, sums, first, last] = numbers;
+    (Row { location, reads, writes, sums, first, last, lines }, bar.len())
 }
 
 /// The length of a bar: the fewest of 20 marks that stand for so many accesses.
@@ -114,6 +118,7 @@ pub fn listed(object: &Json) -> Vec<Row> {
             location: number("location"),
             reads: number("reads"),
             writes: number("writes"),
+            sums: number("sums"),
             first: number("first"),
             last: number("last"),
             lines: is_text.then(|| (number("first_line"), number("last_line"))),

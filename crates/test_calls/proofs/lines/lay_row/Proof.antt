@@ -7,10 +7,10 @@ use Rattle.test_calls.proofs.lines.lay_row.Statement.{statement}
 use Rattle.test_calls.proofs.lines.lay_row.Tie as tie
 
 abbrev Inv-loop : tie.InvT-loop
-Inv-loop events₀ k₀ events k = (length events ≡ length events₀) × (1 ≤ k)
+Inv-loop events₀ kind last k₀ events k = (length events ≡ length events₀) × (1 ≤ k)
 
 abbrev μ-loop : tie.MeasureT-loop
-μ-loop events₀ k₀ events k = 1024 - k
+μ-loop events₀ kind last k₀ events k = 1024 - k
 
 pub lay-row-spec : {M : Type 1} → statement M
 lay-row-spec =

@@ -1,0 +1,9 @@
+-- The kinds of access counted up from 0, for code that keeps one table for each. Assumes nothing.
+use Prim.Native.Nat.{ℕ}
+use mathlib.Core.Bool.{cond}
+use lib.Dec.{eqb}
+use Rattle.trace.specs.Trace.{SUM}
+
+-- 0 for a read, 1 for a write, 2 for a sum.
+unfoldable pub indexOf : ℕ → ℕ
+indexOf k = cond (eqb k SUM) 2 k
