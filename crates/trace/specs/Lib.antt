@@ -1,4 +1,4 @@
--- What a reader must believe, in the order in which to read it.
+-- What a reader must believe, in the order in which to read it. `Kinds`, the last one, is for the code alone.
 pub mod Trace
 pub mod Lent
 pub mod Line
