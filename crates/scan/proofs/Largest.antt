@@ -1,71 +1,19 @@
 -- The tables hold the largest numbers: what one event changes in them, and that they tell whether an access races. Assumes nothing.
-use Prim.Native.Nat.{ℕ, suc, max, _+_, _<_, _≤_}
-use mathlib.Core.Path.{_≡_, refl, sym, ap, _∙_}
-use mathlib.Core.Bool.{Bool, true, false, true≢false}
+use Prim.Native.Nat.{ℕ, suc, max, _+_, _-_, _*_, _/_, _%_, _<_, _≤_}
+use mathlib.Core.Path.{_≡_, refl, sym, _∙_}
+use mathlib.Core.Bool.{true, false, true≢false}
 use mathlib.Core.List.{List}
 use mathlib.Core.Logic.{_⊎_, inl, inr, _≢_, _↔_}
 use native.Mathlib.Omega.{arith}
 use lib.ListN.{length, getD, set, length-set}
 use lib.Seq.{getD-set-same, getD-set-other}
-use borrow.Author.Tests.{ne-eqb}
 use Rattle.trace.specs.Trace.{READ, WRITE, SUM, isAccess, LOCATIONS}
 use Rattle.trace.specs.Race.{conflicting}
 use Rattle.trace.proofs.Tests.{by-test, either, same-or-not, lt-or-le, last-or-below}
 use Rattle.trace.proofs.EventKinds.{test-access}
 use Rattle.trace.proofs.Conflicts.{test-conflicting}
 use Rattle.scan.specs.Numbered.{Against, RaceByNumber}
-use Rattle.scan.specs.Tables.{FOR-READS, FOR-SUMS, TABLES, tableOf, alsoKept, heldAgainst, Testable, Calm, raised, keptIn, TestSays}
-
--- ---- what the functions return and leave
-
--- A read or a write,
-module _ (c : List ℕ) (k l x : ℕ) (ready : Testable c k l × (k ≢ SUM)) where
-  -- the table that it is held against beside FOR-READS,
-  table-is : (b table : ℕ) → table ≡ tableOf k → b ≡ getD c (table + l) 0 → b ≡ getD c (tableOf k + l) 0
-  table-is b table is read = read ∙ ap (λ (z : ℕ). getD c (z + l) 0) is
-
-  held-is : heldAgainst c k l ≡ max (getD c (FOR-READS + l) 0) (getD c (tableOf k + l) 0)
-  unfolding heldAgainst
-  held-is = rw (ne-eqb k SUM (ready .1))
-
-  -- which is not the smaller one where there was no sum.
-  calm-table : getD c (FOR-READS + l) 0 ≤ getD c (FOR-SUMS + l) 0 → getD c (FOR-READS + l) 0 ≤ getD c (tableOf k + l) 0
-  calm-table calm =
-      either (test-access k .0 (ready .0 .access)) (λ e. rw e (omega arith))
-      (λ b. either b (λ e. rw e calm) (λ e. absurd (ready .1 e)))
-
-  pub held-back : (a : ℕ) → x < a → a ≡ getD c (FOR-READS + l) 0 → TestSays c c k l x false
-  held-back a low read = (omega (arith, held-is), refl)
-
-  pub held-back-too : (b table : ℕ) → x < b → table ≡ tableOf k → b ≡ getD c (table + l) 0 → TestSays c c k l x false
-  held-back-too b table low is read = (omega (arith, held-is, table-is b table is read), refl)
-
-  pub passed :
-      (b table : ℕ) (sums : Bool) (d : List ℕ) → Calm c sums → (sums ≡ false) ⊎ (getD c (FOR-READS + l) 0 ≤ x) → b ≤ x → table ≡ tableOf k
-      → b ≡ getD c (table + l) 0 → d ≡ keptIn c k l x → TestSays c d k l x true
-  passed b table sums d calm held high is read kept =
-      let cell = table-is b table is read in (
-        either held (λ none. omega (arith, held-is, calm-table (calm none l (ready .0 .location)))) (λ low. omega (arith, held-is)),
-        kept,
-      )
-
-  pub kept-plain :
-      (a m table : ℕ) (b d : List ℕ) → a ≡ getD c (FOR-SUMS + l) 0 → m ≡ max a x → b ≡ set c (FOR-SUMS + l) m → table ≡ alsoKept k
-      → d ≡ set b (table + l) m → d ≡ keptIn c k l x
-  unfolding keptIn
-  kept-plain a m table b d read larger first is second = rw (ne-eqb k SUM (ready .1)) (cc (read, larger, first, is, second))
-
--- and a sum.
-module _ (c : List ℕ) (l x : ℕ) where
-  pub sum-held-back : (a : ℕ) → x < a → a ≡ getD c (FOR-SUMS + l) 0 → TestSays c c SUM l x false
-  unfolding heldAgainst
-  sum-held-back a low read = (omega arith, refl)
-
-  pub sum-passed :
-      (a b m : ℕ) (d : List ℕ) → a ≤ x → a ≡ getD c (FOR-SUMS + l) 0 → b ≡ getD c (FOR-READS + l) 0 → m ≡ max b x → d ≡ set c (FOR-READS + l) m
-      → TestSays c d SUM l x true
-  unfolding heldAgainst keptIn
-  sum-passed a b m d high read read′ larger stored = (omega arith, cc (read′, larger, stored))
+use Rattle.scan.specs.Tables.{FOR-READS, FOR-SUMS, TABLES, firstHeld, secondHeld, heldAgainst, Testable, Calm, raised, storedIn, keptIn, TestSays}
 
 -- ---- what an access is held against, kind by kind
 
@@ -73,77 +21,132 @@ held-read : (c : List ℕ) (l : ℕ) → heldAgainst c READ l ≡ getD c (FOR-RE
 unfolding heldAgainst
 held-read c l = omega arith
 
-held-write : (c : List ℕ) (l : ℕ) → heldAgainst c WRITE l ≡ max (getD c (FOR-READS + l) 0) (getD c (FOR-SUMS + l) 0)
+held-write : (c : List ℕ) (l : ℕ) → heldAgainst c WRITE l ≡ max (getD c (FOR-SUMS + l) 0) (getD c (FOR-READS + l) 0)
 unfolding heldAgainst
 held-write c l = refl
 
 held-sum : (c : List ℕ) (l : ℕ) → heldAgainst c SUM l ≡ getD c (FOR-SUMS + l) 0
 unfolding heldAgainst
-held-sum c l = refl
+held-sum c l = omega arith
 
 -- ---- the cells of an access that is kept, kind by kind
 
 module _ (c : List ℕ) (o x : ℕ) where
-  kept-read : keptIn c READ o x ≡ set (set c (FOR-SUMS + o) (raised c FOR-SUMS o x)) (FOR-SUMS + o) (raised c FOR-SUMS o x)
+  kept-read : keptIn c READ o x ≡ storedIn c FOR-SUMS FOR-SUMS o x
   unfolding keptIn
   kept-read = refl
 
-  kept-write : keptIn c WRITE o x ≡ set (set c (FOR-SUMS + o) (raised c FOR-SUMS o x)) (FOR-READS + o) (raised c FOR-SUMS o x)
+  kept-write : keptIn c WRITE o x ≡ storedIn c FOR-SUMS FOR-READS o x
   unfolding keptIn
   kept-write = refl
 
-  kept-sum : keptIn c SUM o x ≡ set c (FOR-READS + o) (raised c FOR-READS o x)
+  kept-sum : keptIn c SUM o x ≡ storedIn c FOR-READS FOR-READS o x
   unfolding keptIn
   kept-sum = refl
 
-  set-long : (i j v w : ℕ) → length (set (set c i v) j w) ≡ length c
-  set-long i j v w = simp length-set
+  pub kept-long : (j : ℕ) → length (keptIn c j o x) ≡ length c
+  unfolding keptIn storedIn
+  kept-long j = simp length-set
 
-  set-apart : (i j v w m : ℕ) → m ≢ i → m ≢ j → getD (set (set c i v) j w) m 0 ≡ getD c m 0
-  set-apart i j v w m d e = getD-set-other (set c i v) j m w 0 e ∙ getD-set-other c i m v 0 d
+  stored-apart : (first second i : ℕ) → i ≢ first + o → i ≢ second + o → getD (storedIn c first second o x) i 0 ≡ getD c i 0
+  unfolding storedIn
+  stored-apart first second i d e =
+      getD-set-other (set c (first + o) (raised c first o x)) (second + o) i (raised c first o x) 0 e
+      ∙ getD-set-other c (first + o) i (raised c first o x) 0 d
 
-  module _ (j : ℕ) (access : isAccess j ≡ true) where
-    pub kept-long : length (keptIn c j o x) ≡ length c
-    kept-long =
-        either (test-access j .0 access) (λ e. rw (e, kept-read) (set-long _ _ _ _))
-        (λ b. either b (λ e. rw (e, kept-write) (set-long _ _ _ _)) (λ e. rw (e, kept-sum) (length-set c (FOR-READS + o) _)))
+  -- Other cells than those of the location are left.
+  pub kept-other : (j : ℕ) → isAccess j ≡ true → (i : ℕ) → i ≢ FOR-READS + o → i ≢ FOR-SUMS + o → getD (keptIn c j o x) i 0 ≡ getD c i 0
+  kept-other j access i d e =
+      either (test-access j .0 access) (λ k. rw (k, kept-read) (stored-apart FOR-SUMS FOR-SUMS i e e))
+      (λ b.
+      either b (λ k. rw (k, kept-write) (stored-apart FOR-SUMS FOR-READS i e d)) (λ k. rw (k, kept-sum) (stored-apart FOR-READS FOR-READS i d d)))
 
-    -- Other cells than those of the location are left.
-    pub kept-other : (i : ℕ) → i ≢ FOR-READS + o → i ≢ FOR-SUMS + o → getD (keptIn c j o x) i 0 ≡ getD c i 0
-    kept-other i d e =
-        either (test-access j .0 access) (λ k. rw (k, kept-read) (set-apart _ _ _ _ i e e))
-        (λ b. either b (λ k. rw (k, kept-write) (set-apart _ _ _ _ i e d)) (λ k. rw (k, kept-sum) (getD-set-other c (FOR-READS + o) i _ 0 d)))
-
-  -- A write or a sum that passed is kept in FOR-READS, and a read or a write that passed in FOR-SUMS.
   module _ (room : TABLES ≤ length c) (location : o < LOCATIONS) where
+    stored-first : (first second : ℕ) → first ≤ FOR-SUMS → second ≤ FOR-SUMS → getD (storedIn c first second o x) (first + o) 0 ≡ raised c first o x
+    unfolding storedIn
+    stored-first first second h i =
+        let long = length-set c (first + o) (raised c first o x) in
+        either (same-or-not first second)
+        (λ e. rw (← e) (getD-set-same (set c (first + o) (raised c first o x)) (first + o) (raised c first o x) 0 (omega arith)))
+        (λ d.
+        getD-set-other (set c (first + o) (raised c first o x)) (second + o) (first + o) (raised c first o x) 0 (λ q. d (omega arith))
+        ∙ getD-set-same c (first + o) (raised c first o x) 0 (omega arith))
+
+    stored-second : (first second : ℕ) → second ≤ FOR-SUMS → getD (storedIn c first second o x) (second + o) 0 ≡ raised c first o x
+    unfolding storedIn
+    stored-second first second h =
+        getD-set-same (set c (first + o) (raised c first o x)) (second + o) (raised c first o x) 0
+        (omega (arith, length-set c (first + o) (raised c first o x)))
+
+    -- A write or a sum that passed is kept in FOR-READS, and a read or a write that passed in FOR-SUMS.
     read-leaves : getD (keptIn c READ o x) (FOR-READS + o) 0 ≡ getD c (FOR-READS + o) 0
-    read-leaves = rw kept-read (set-apart _ _ _ _ (FOR-READS + o) (omega arith) (omega arith))
+    read-leaves = rw kept-read (stored-apart FOR-SUMS FOR-SUMS (FOR-READS + o) (omega arith) (omega arith))
 
     write-kept : heldAgainst c WRITE o ≤ x → getD (keptIn c WRITE o x) (FOR-READS + o) 0 ≡ raised c FOR-READS o x
-    write-kept quiet =
-        let held = held-write c o in
-        rw kept-write
-        (getD-set-same (set c (FOR-SUMS + o) (raised c FOR-SUMS o x)) (FOR-READS + o) (raised c FOR-SUMS o x) 0
-        (omega (arith, length-set c (FOR-SUMS + o) (raised c FOR-SUMS o x)))
-        ∙ omega arith)
+    write-kept quiet = let held = held-write c o in rw kept-write (stored-second FOR-SUMS FOR-READS (omega arith) ∙ omega arith)
 
     sum-kept : getD (keptIn c SUM o x) (FOR-READS + o) 0 ≡ raised c FOR-READS o x
-    sum-kept = rw kept-sum (getD-set-same c (FOR-READS + o) (raised c FOR-READS o x) 0 (omega arith))
+    sum-kept = rw kept-sum (stored-second FOR-READS FOR-READS (omega arith))
 
     read-kept : getD (keptIn c READ o x) (FOR-SUMS + o) 0 ≡ raised c FOR-SUMS o x
-    read-kept =
-        rw kept-read
-        (getD-set-same (set c (FOR-SUMS + o) (raised c FOR-SUMS o x)) (FOR-SUMS + o) (raised c FOR-SUMS o x) 0
-        (omega (arith, length-set c (FOR-SUMS + o) (raised c FOR-SUMS o x))))
+    read-kept = rw kept-read (stored-second FOR-SUMS FOR-SUMS (omega arith))
 
     write-kept-too : getD (keptIn c WRITE o x) (FOR-SUMS + o) 0 ≡ raised c FOR-SUMS o x
-    write-kept-too =
-        rw kept-write
-        (getD-set-other (set c (FOR-SUMS + o) (raised c FOR-SUMS o x)) (FOR-READS + o) (FOR-SUMS + o) (raised c FOR-SUMS o x) 0 (omega arith)
-        ∙ getD-set-same c (FOR-SUMS + o) (raised c FOR-SUMS o x) 0 (omega arith))
+    write-kept-too = rw kept-write (stored-first FOR-SUMS FOR-READS (omega arith) (omega arith))
 
     sum-leaves : getD (keptIn c SUM o x) (FOR-SUMS + o) 0 ≡ getD c (FOR-SUMS + o) 0
-    sum-leaves = rw kept-sum (getD-set-other c (FOR-READS + o) (FOR-SUMS + o) _ 0 (omega arith))
+    sum-leaves = rw kept-sum (stored-apart FOR-READS FOR-READS (FOR-SUMS + o) (omega arith) (omega arith))
+
+-- ---- what the functions return and leave
+
+-- The tables by the kinds' numbers.
+pub first-is : (k : ℕ) → isAccess k ≡ true → (FOR-READS + LOCATIONS * (k % 2) ≡ firstHeld k) × (FOR-READS + LOCATIONS * (k % 2) ≤ FOR-SUMS)
+first-is k access =
+    either (test-access k .0 access) (λ e. rw e (refl, omega arith))
+    (λ b. either b (λ e. rw e (refl, omega arith)) (λ e. rw e (refl, omega arith)))
+
+pub second-is : (k : ℕ) → isAccess k ≡ true → (FOR-READS + LOCATIONS * (k / 4) ≡ secondHeld k) × (FOR-READS + LOCATIONS * (k / 4) ≤ FOR-SUMS)
+second-is k access =
+    either (test-access k .0 access) (λ e. rw e (refl, omega arith))
+    (λ b. either b (λ e. rw e (refl, omega arith)) (λ e. rw e (refl, omega arith)))
+
+module _ (c : List ℕ) (k l x : ℕ) where
+  pub held-back :
+      (first second a b r : ℕ) → first ≡ firstHeld k → second ≡ secondHeld k → a ≡ getD c (first + l) 0 → b ≡ getD c (second + l) 0 → r ≡ max a b → x < r
+      → TestSays c c k l x false
+  unfolding heldAgainst
+  held-back first second a b r one two read read′ larger low =
+      let held : r ≡ max (getD c (firstHeld k + l) 0) (getD c (secondHeld k + l) 0) = cc (one, two, read, read′, larger) in
+      (omega arith, refl)
+
+  pub passed :
+      (first second a b r : ℕ) (d : List ℕ) → first ≡ firstHeld k → second ≡ secondHeld k → a ≡ getD c (first + l) 0 → b ≡ getD c (second + l) 0 → r ≡ max a b
+      → r ≤ x → d ≡ storedIn c (FOR-SUMS - second) (FOR-SUMS - first) l x → TestSays c d k l x true
+  unfolding heldAgainst keptIn
+  passed first second a b r d one two read read′ larger high stored =
+      let held : r ≡ max (getD c (firstHeld k + l) 0) (getD c (secondHeld k + l) 0) = cc (one, two, read, read′, larger) in
+      (omega arith, cc (one, two, stored))
+
+  -- A read or a write where no sum has been kept.
+  module _ (ready : Testable c k l × (k ≢ SUM)) where
+    pub quick-back : (b : ℕ) → x < b → b ≡ getD c (FOR-READS + LOCATIONS * k + l) 0 → TestSays c c k l x false
+    quick-back b low read =
+        either (test-access k .0 (ready .0 .access)) (λ e. let is = rw e at read in rw e (omega (arith, held-read c l), refl))
+        (λ o.
+        either o (λ e. let is = rw e at read in rw e (omega (arith, held-write c l), refl)) (λ e. absurd (ready .1 e)))
+
+    pub quick-passed :
+        (b : ℕ) (d : List ℕ) → Calm c → b ≤ x → b ≡ getD c (FOR-READS + LOCATIONS * k + l) 0
+        → d ≡ storedIn c FOR-SUMS (FOR-SUMS - (FOR-READS + LOCATIONS * k)) l x → TestSays c d k l x true
+    quick-passed b d calm high read stored =
+        either (test-access k .0 (ready .0 .access))
+        (λ e. let is = rw e at read in rw e (omega (arith, held-read c l), (rw e at stored) ∙ sym (kept-read c l x)))
+        (λ o.
+        either o
+        (λ e.
+        let is = rw e at read in
+        rw e (omega (arith, held-write c l, calm l (ready .0 .location)), (rw e at stored) ∙ sym (kept-write c l x)))
+        (λ e. absurd (ready .1 e)))
 
 -- The cell v of those that conflict with kind k becomes v′ where an access of kind j with number x is kept.
 abbrev Raises : ℕ → ℕ → ℕ → ℕ → ℕ → Type 0
@@ -174,10 +177,9 @@ module _ (c : List ℕ) (o x j : ℕ) (access : isAccess j ≡ true) (room : TAB
 
 -- Where there was no sum, FOR-READS stays below FOR-SUMS.
 pub calm-kept :
-    (c : List ℕ) (o x j : ℕ) → isAccess j ≡ true → j ≢ SUM → TABLES ≤ length c → o < LOCATIONS → heldAgainst c j o ≤ x → (sums : Bool) → Calm c sums
-    → Calm (keptIn c j o x) sums
-calm-kept c o x j access other room location quiet sums calm none l low =
-    let was = calm none l low in
+    (c : List ℕ) (o x j : ℕ) → isAccess j ≡ true → j ≢ SUM → TABLES ≤ length c → o < LOCATIONS → heldAgainst c j o ≤ x → Calm c → Calm (keptIn c j o x)
+calm-kept c o x j access other room location quiet calm l low =
+    let was = calm l low in
     let same : l ≢ o → getD (keptIn c j o x) (FOR-READS + l) 0 ≤ getD (keptIn c j o x) (FOR-SUMS + l) 0 =
     λ d.
     omega
@@ -267,7 +269,7 @@ module _ (kinds operands : List ℕ) (number : ℕ → ℕ) where
       either (test-access k .0 access) (λ e. rw (e, held-read) (before .for-reads l low))
       (λ b. either b (λ e. rw (e, held-write) of-write) (λ e. rw (e, held-sum) (before .for-sums l low)))
     where
-      of-write : Largest WRITE l n (max (getD c (FOR-READS + l) 0) (getD c (FOR-SUMS + l) 0))
+      of-write : Largest WRITE l n (max (getD c (FOR-SUMS + l) 0) (getD c (FOR-READS + l) 0))
       of-write x = (
         λ h. either (lt-or-le x (getD c (FOR-READS + l) 0))
             (λ i. let w = before .for-reads l low x .0 i in (w .0, w .1, against-write (w .2), w .3))

@@ -3,11 +3,11 @@ use Prim.Native.Nat.{ℕ, suc, _+_, _<_, _≤_}
 use mathlib.Core.Path.{_≡_, refl, sym, ap, subst, fun-ext, _∙_}
 use mathlib.Core.Bool.{Bool, true, false, true≢false}
 use mathlib.Core.List.{List}
-use mathlib.Core.Logic.{_≢_, _↔_}
+use mathlib.Core.Logic.{_↔_}
 use native.Mathlib.Omega.{arith}
 use native.Mathlib.Numerals.{add-one}
 use lib.ListN.{length, getD}
-use Rattle.trace.specs.Trace.{SUM, isAccess, WORKSPACE-CELLS}
+use Rattle.trace.specs.Trace.{FORK, isKind, isAccess, WORKSPACE-CELLS}
 use Rattle.trace.proofs.Tests.{either, last-or-below}
 use Rattle.cells.specs.Cells.{zeroed, SameFrom}
 use Rattle.cells.proofs.Zeroed.{zeroed-length, zeroed-below, zeroed-beyond}
@@ -21,15 +21,17 @@ use Rattle.scan.specs.Tables.{FOR-READS, TABLES, heldAgainst, Testable, 
 use Rattle.scan.proofs.Largest.{kept-long, kept-other, calm-kept, Tables, tables-none, tables-move, tables-kept, race-by-table}
 
 -- Before each turn the tables hold the largest numbers of the first t events, and none of these races with an earlier one; `current` counts the moves among
--- them, and `number` is that of the open segment. The cells were `start` where the loop began, and the numbers still stand there.
-pub record Scanning (kinds operands : List ℕ) (from events : ℕ) (start c : List ℕ) (current number : ℕ) (sums : Bool) (t : ℕ) : Type 0 where
+-- them, and `number` is that of the open segment. Kinds below `quick`, if there are any, have one table to ask. The cells were `start` where the loop began, and
+-- the numbers still stand there.
+pub record Scanning (kinds operands : List ℕ) (from events : ℕ) (start c : List ℕ) (current number quick t : ℕ) : Type 0 where
   pub within : t ≤ events
   pub counts : current ≡ moves (kindsOnly kinds) t
   pub opened : number ≡ getD start (NEXT + current) 0
   pub numbered : Numbered kinds operands start from events
   pub beyond : SameFrom TABLES start c
   pub tables : Tables kinds operands (ownNumber kinds start) t c
-  pub calm : Calm c sums
+  pub limit : quick ≤ FORK
+  pub calm : 0 < quick → Calm c
   pub none : (p q : ℕ) → q < t → RaceByNumber kinds operands (ownNumber kinds start) p q → ⊥
 
 -- Event r is the first that races, by the numbers of `start`, and they still stand in `c`.
@@ -50,7 +52,7 @@ module _ (kinds operands : List ℕ) (from events : ℕ) where
     cleared-cell : (i : ℕ) → i < TABLES → getD start i 0 ≡ 0
     cleared-cell i h = rw e (zeroed-below TABLES entry i h)
 
-    pub scan-begin : Scanning kinds operands from events start start 0 0 false from
+    pub scan-begin : Scanning kinds operands from events start start 0 0 FORK from
     scan-begin =
         let ready = lent .segments-in in
         let zeros : (p : ℕ) → p < from → ownNumber kinds start p ≡ 0 =
@@ -78,7 +80,8 @@ module _ (kinds operands : List ℕ) (from events : ℕ) where
               };
           beyond = record { long = refl; same = λ i h. refl };
           tables = tables-none kinds operands (ownNumber kinds start) from start cleared-cell zeros;
-          calm = λ none l low. omega (arith, cleared-cell (FOR-READS + l) (omega arith));
+          limit = omega arith;
+          calm = λ some l low. omega (arith, cleared-cell (FOR-READS + l) (omega arith));
           none = λ p q h r. let i = r .before in let s = r .smaller in absurd (omega (arith, zeros p (omega arith)));
         }
 
@@ -89,7 +92,7 @@ module _ (kinds operands : List ℕ) (from events : ℕ) where
       record { long = f .1 .long ∙ begun-beyond .long; same = λ i h. f .1 .same i h ∙ begun-beyond .same i h },
     )
 
-  module _ {start c : List ℕ} {current number t : ℕ} {sums : Bool} (s : Scanning kinds operands from events start c current number sums t) where
+  module _ {start c : List ℕ} {current number quick t : ℕ} (s : Scanning kinds operands from events start c current number quick t) where
     pub scan-end : events ≤ t → Found kinds operands events start c t
     scan-end h = (record { within = s .within; none-before = s .none; race = λ i. absurd (omega arith) }, s .beyond)
 
@@ -109,6 +112,14 @@ module _ (kinds operands : List ℕ) (from events : ℕ) where
           (p q : ℕ) → q < suc t → RaceByNumber kinds operands (ownNumber kinds start) p q → ⊥
       none-next at p q h r = either (last-or-below q t h) (λ e. at p (rw e at r)) (λ i. s .none p q i r)
 
+      -- Below `quick` stand reads and writes.
+      pub scan-quick : getD kinds t 0 < quick → (getD kinds t 0 < FORK) × Calm c
+      scan-quick h = let limit = s .limit in (omega arith, s .calm (omega arith))
+
+      -- Each kind is one that the documents name.
+      pub scan-named : isKind (getD kinds t 0) ≡ true
+      scan-named = s .numbered .segments-in .named t inside
+
       module _ (move : isAccess (getD kinds t 0) ≡ false) where
         -- The next segment has one too.
         pub scan-next : current + 1 < SEGMENTS
@@ -118,7 +129,7 @@ module _ (kinds operands : List ℕ) (from events : ℕ) where
             omega (arith, moves-more kinds t move, moves-rise (kindsOnly kinds) (suc t) events inside)
 
         pub scan-move :
-            (next : ℕ) → next ≡ getD c (NEXT + (current + 1)) 0 → Scanning kinds operands from events start c (current + 1) next sums (t + 1)
+            (next : ℕ) → next ≡ getD c (NEXT + (current + 1)) 0 → Scanning kinds operands from events start c (current + 1) next quick (t + 1)
         scan-move next read =
             let few = scan-next in
             rw (add-one t)
@@ -129,6 +140,7 @@ module _ (kinds operands : List ℕ) (from events : ℕ) where
               numbered = s .numbered;
               beyond = s .beyond;
               tables = tables-move kinds operands (ownNumber kinds start) t c move (s .tables);
+              limit = s .limit;
               calm = s .calm;
               none = none-next (λ p r. true≢false (sym (r .access) ∙ move));
             })
@@ -152,10 +164,10 @@ module _ (kinds operands : List ℕ) (from events : ℕ) where
             let f = scan-testable in
             rw own (race-by-table kinds operands (ownNumber kinds start) t c (f .room) access (f .location) (s .tables))
 
-        -- It passed and was kept: a sum is one from now on.
+        -- It passed and was kept: in the loop's quick way, where there was no sum, or not.
         module _ (d : List ℕ) (says : TestSays c d k l number true) where
-          kept-with : (sums′ : Bool) → Calm d sums′ → Scanning kinds operands from events start d current number sums′ (t + 1)
-          kept-with sums′ calm =
+          kept-with : (quick′ : ℕ) → quick′ ≤ FORK → (0 < quick′ → Calm d) → Scanning kinds operands from events start d current number quick′ (t + 1)
+          kept-with quick′ limit calm =
               let f = scan-testable in
               let quiet = says .0 in
               let o = own in
@@ -168,25 +180,27 @@ module _ (kinds operands : List ℕ) (from events : ℕ) where
                 beyond =
                     rw (says .1)
                     (record {
-                      long = kept-long c l number k access ∙ s .beyond .long;
+                      long = kept-long c l number k ∙ s .beyond .long;
                       same = λ i h. kept-other c l number k access i (λ q. omega arith) (λ q. omega arith) ∙ s .beyond .same i h;
                     });
                 tables = rw (says .1, o) (tables-kept kinds operands (ownNumber kinds start) t c (f .room) access (f .location) (s .tables) (omega arith));
+                limit = limit;
                 calm = calm;
                 none = none-next (λ p r. let h = told .1 (p, r) in omega arith);
               })
 
-        pub scan-kept :
-            (d : List ℕ) (r : Bool) → k ≢ SUM → r ≡ true → TestSays c d k l number r → Scanning kinds operands from events start d current number sums (t + 1)
-        scan-kept d false other e says = absurd (true≢false (sym e))
-        scan-kept d true other e says =
+        pub scan-quick-kept :
+            (d : List ℕ) (r : Bool) → k < quick → r ≡ true → TestSays c d k l number r → Scanning kinds operands from events start d current number quick (t + 1)
+        scan-quick-kept d false low e says = absurd (true≢false (sym e))
+        scan-quick-kept d true low e says =
             let f = scan-testable in
-            kept-with d says sums (rw (says .1) (calm-kept c l number k access other (f .room) (f .location) (says .0) sums (s .calm)))
+            let limit = s .limit in
+            kept-with d says quick limit
+            (λ some. rw (says .1) (calm-kept c l number k access (λ q. omega arith) (f .room) (f .location) (says .0) (s .calm some)))
 
-        pub scan-sum-kept :
-            (d : List ℕ) (r : Bool) → k ≡ SUM → r ≡ true → TestSays c d SUM l number r → Scanning kinds operands from events start d current number true (t + 1)
-        scan-sum-kept d false is e says = absurd (true≢false (sym e))
-        scan-sum-kept d true is e says = kept-with d (rw is says) true (λ never. absurd (true≢false never))
+        pub scan-kept : (d : List ℕ) (r : Bool) → r ≡ true → TestSays c d k l number r → Scanning kinds operands from events start d current number 0 (t + 1)
+        scan-kept d false e says = absurd (true≢false (sym e))
+        scan-kept d true e says = kept-with d says 0 (omega arith) (λ some. absurd (omega arith))
 
         -- It races.
         pub scan-race : (d : List ℕ) (r : Bool) → r ≡ false → TestSays c d k l number r → Found kinds operands events start d t
@@ -194,6 +208,3 @@ module _ (kinds operands : List ℕ) (from events : ℕ) where
         scan-race d false e says =
             let lower = says .0 in
             (record { within = s .within; none-before = s .none; race = λ h. told .0 (omega arith) }, rw (says .1) (s .beyond))
-
-        pub scan-sum-race : (d : List ℕ) (r : Bool) → k ≡ SUM → r ≡ false → TestSays c d SUM l number r → Found kinds operands events start d t
-        scan-sum-race d r is e says = scan-race d r e (rw is says)

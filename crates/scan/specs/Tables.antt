@@ -1,11 +1,11 @@
 -- The tables of largest numbers, and what the test of one access leaves in them. Assumes nothing.
-use Prim.Native.Nat.{ℕ, max, _+_, _-_, _*_, _<_, _≤_}
+use Prim.Native.Nat.{ℕ, max, _+_, _-_, _<_, _≤_}
 use mathlib.Core.Path.{_≡_}
 use mathlib.Core.Bool.{Bool, true, false, cond}
 use mathlib.Core.List.{List}
 use lib.Dec.{eqb}
 use lib.ListN.{length, getD, set}
-use Rattle.trace.specs.Trace.{SUM, isAccess, LOCATIONS}
+use Rattle.trace.specs.Trace.{READ, SUM, isAccess, LOCATIONS}
 
 -- For each location the largest number of an earlier write or sum, which a read is held against,
 abbrev pub FOR-READS : ℕ
@@ -19,17 +19,16 @@ FOR-SUMS = 1024
 abbrev pub TABLES : ℕ
 TABLES = 2048
 
--- The table that a read or a write is held against beside FOR-READS: FOR-SUMS for a write, FOR-READS again for a read.
-abbrev pub tableOf : ℕ → ℕ
-tableOf k = FOR-READS + LOCATIONS * k
+-- The two tables that an access of kind k is held against: FOR-READS twice for a read, both for a write, FOR-SUMS twice for a sum.
+abbrev pub firstHeld : ℕ → ℕ
+firstHeld k = cond (eqb k READ) FOR-READS FOR-SUMS
 
--- The table that it is kept in beside FOR-SUMS: FOR-READS for a write, FOR-SUMS again for a read.
-abbrev pub alsoKept : ℕ → ℕ
-alsoKept k = FOR-SUMS - LOCATIONS * k
+abbrev pub secondHeld : ℕ → ℕ
+secondHeld k = cond (eqb k SUM) FOR-SUMS FOR-READS
 
 -- The largest number that an access of kind k to location l is held against.
 unfoldable pub heldAgainst : List ℕ → ℕ → ℕ → ℕ
-heldAgainst c k l = cond (eqb k SUM) (getD c (FOR-SUMS + l) 0) (max (getD c (FOR-READS + l) 0) (getD c (tableOf k + l) 0))
+heldAgainst c k l = max (getD c (firstHeld k + l) 0) (getD c (secondHeld k + l) 0)
 
 -- What is asked for the test of an access of kind k to location l.
 pub record Testable (c : List ℕ) (k l : ℕ) : Type 0 where
@@ -37,19 +36,28 @@ pub record Testable (c : List ℕ) (k l : ℕ) : Type 0 where
   pub location : l < LOCATIONS
   pub room : TABLES ≤ length c
 
--- Where no sum has been kept, nothing is in FOR-READS that is not in FOR-SUMS too, so that a write need not be held against it.
-abbrev pub Calm : List ℕ → Bool → Type 0
-Calm c sums = sums ≡ false → (l : ℕ) → l < LOCATIONS → getD c (FOR-READS + l) 0 ≤ getD c (FOR-SUMS + l) 0
+-- What is asked for two stores to the cells of location l.
+pub record Keepable (c : List ℕ) (first second l : ℕ) : Type 0 where
+  pub location : l < LOCATIONS
+  pub room : TABLES ≤ length c
+  pub first-table : first ≤ FOR-SUMS
+  pub second-table : second ≤ FOR-SUMS
 
--- The larger of x and the number of location l in a table.
+-- Where no sum has been kept, nothing is in FOR-READS that is not in FOR-SUMS too, so that a write need not be held against it.
+abbrev pub Calm : List ℕ → Type 0
+Calm c = (l : ℕ) → l < LOCATIONS → getD c (FOR-READS + l) 0 ≤ getD c (FOR-SUMS + l) 0
+
+-- The larger of x and the number of location l in a table,
 abbrev pub raised : List ℕ → ℕ → ℕ → ℕ → ℕ
 raised c table l x = max (getD c (table + l) 0) x
 
+-- stored in that table and in another.
+unfoldable pub storedIn : List ℕ → ℕ → ℕ → ℕ → ℕ → List ℕ
+storedIn c first second l x = set (set c (first + l) (raised c first l x)) (second + l) (raised c first l x)
+
 -- An access with number x is kept: a sum in FOR-READS, a read in FOR-SUMS, a write in both. For a write that passed, x is the largest in either.
 unfoldable pub keptIn : List ℕ → ℕ → ℕ → ℕ → List ℕ
-keptIn c k l x =
-    cond (eqb k SUM) (set c (FOR-READS + l) (raised c FOR-READS l x))
-    (set (set c (FOR-SUMS + l) (raised c FOR-SUMS l x)) (alsoKept k + l) (raised c FOR-SUMS l x))
+keptIn c k l x = storedIn c (FOR-SUMS - secondHeld k) (FOR-SUMS - firstHeld k) l x
 
 -- What the test says: the access passes and is kept, or the largest number that it is held against is larger and no cell has changed.
 abbrev pub TestSays : List ℕ → List ℕ → ℕ → ℕ → ℕ → Bool → Type 0

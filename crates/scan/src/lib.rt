@@ -9,9 +9,8 @@ ghost use Rattle.trace.specs.Trace.{SUM, isAccess};
 ghost use Rattle.cells.specs.Cells.{SameFrom};
 ghost use Rattle.ranks.specs.States.{ownNumber};
 ghost use Rattle.scan.specs.Numbered.{Numbered, FirstRace};
-ghost use Rattle.scan.specs.Tables.{FOR-SUMS, TABLES, tableOf, alsoKept, Testable, Calm, keptIn, TestSays};
+ghost use Rattle.scan.specs.Tables.{FOR-SUMS, TABLES, firstHeld, secondHeld, Testable, Keepable, Calm, storedIn, TestSays};
 use trace::FORK;
-use trace::SUM;
 
 // For each location the largest number of an earlier write or sum, which a read is held against, and of an earlier read or write, which a sum is held against;
 // 0 where there is none. A write is held against both.
@@ -24,67 +23,66 @@ const TABLES: usize = 2048;
 
 const LOCATIONS: usize = trace::LOCATIONS as usize;
 
-// The table that a read or a write is held against beside FOR_READS: FOR_SUMS for a write. A read is held against FOR_READS again, which costs less than a
-// branch: no processor can predict whether an access is a read or a write.
-fn table_of(kind: u8) -> usize
-    requires { ⌜ (isAccess kind ≡ true) × (kind ≢ SUM) ⌝ }
-    ensures { λ r. ⌜ (r ≡ tableOf kind) × (r ≤ FOR-SUMS) ⌝ }
+// The two tables that an access is held against: FOR_READS twice for a read, which is kind 0, both for a write, kind 1, FOR_SUMS twice for a sum, kind 5. They
+// are computed, since no processor can predict the kind. The two that an access is kept in are found from the other end.
+fn first_held(kind: u8) -> usize
+    requires { ⌜ isAccess kind ≡ true ⌝ }
+    ensures { λ r. ⌜ (r ≡ firstHeld kind) × (r ≤ FOR-SUMS) ⌝ }
 {
-    FOR_READS + LOCATIONS * kind as usize
+    FOR_READS + LOCATIONS * (kind % 2) as usize
 }
 
-// The table that it is kept in beside FOR_SUMS: FOR_READS for a write, FOR_SUMS again for a read.
-fn also_kept(kind: u8) -> usize
-    requires { ⌜ (isAccess kind ≡ true) × (kind ≢ SUM) ⌝ }
-    ensures { λ r. ⌜ (r ≡ alsoKept kind) × (r ≤ FOR-SUMS) ⌝ }
+fn second_held(kind: u8) -> usize
+    requires { ⌜ isAccess kind ≡ true ⌝ }
+    ensures { λ r. ⌜ (r ≡ secondHeld kind) × (r ≤ FOR-SUMS) ⌝ }
 {
-    FOR_SUMS - LOCATIONS * kind as usize
+    FOR_READS + LOCATIONS * (kind / 4) as usize
 }
 
-// A read or a write with number x that passed is one of those that later accesses are held against.
-fn keep(ws: &mut [u16], kind: u8, location: u16, x: u16)
-    requires { ⌜ Testable (now ws) kind location × (kind ≢ SUM) ⌝ }
-    ensures { λ _. ⌜ now (ws .exit) ≡ keptIn (now (ws .entry)) kind location x ⌝ }
+// An access with number x that passed is one of those that later ones are held against: in two tables, or twice in one, which costs less than a branch.
+fn keep(ws: &mut [u16], first: usize, second: usize, location: u16, x: u16)
+    requires { ⌜ Keepable (now ws) first second location ⌝ }
+    ensures { λ _. ⌜ now (ws .exit) ≡ storedIn (now (ws .entry)) first second location x ⌝ }
 {
-    let largest = cells::larger(cells::cell(ws, FOR_SUMS, location), x);
-    cells::put(ws, FOR_SUMS, location, largest);
-    cells::put(ws, also_kept(kind), location, largest);
+    let largest = cells::larger(cells::cell(ws, first, location), x);
+    cells::put(ws, first, location, largest);
+    cells::put(ws, second, location, largest);
 }
 
-// Whether a read or a write with number x passes: no earlier access that it conflicts with has a larger number. If so, it is kept. Until a sum has been kept,
-// its one table tells.
-fn passes(ws: &mut [u16], kind: u8, location: u16, x: u16, sums: bool) -> bool
-    requires { ⌜ Testable (now ws) kind location × (kind ≢ SUM) ⌝ }
-    requires { ⌜ Calm (now ws) sums ⌝ }
+// Whether an access with number x passes: no earlier one that it conflicts with has a larger number. If so, it is kept.
+fn passes(ws: &mut [u16], kind: u8, location: u16, x: u16) -> bool
+    requires { ⌜ Testable (now ws) kind location ⌝ }
     ensures { λ r. ⌜ TestSays (now (ws .entry)) (now (ws .exit)) kind location x r ⌝ }
 {
-    if sums {
-        if x < cells::cell(ws, FOR_READS, location) {
-            return false;
-        }
-    }
-    if x < cells::cell(ws, table_of(kind), location) {
+    let first = first_held(kind);
+    let second = second_held(kind);
+    let largest = cells::larger(
+        cells::cell(ws, first, location),
+        cells::cell(ws, second, location),
+    );
+    if x < largest {
         return false;
     }
-    keep(ws, kind, location, x);
+    keep(ws, FOR_SUMS - second, FOR_SUMS - first, location, x);
     true
 }
 
-// The same of a sum.
-fn sum_passes(ws: &mut [u16], location: u16, x: u16) -> bool
-    requires { ⌜ Testable (now ws) SUM location ⌝ }
-    ensures { λ r. ⌜ TestSays (now (ws .entry)) (now (ws .exit)) SUM location x r ⌝ }
+// The same of a read or a write where no sum has been kept: its first table tells.
+fn quick_passes(ws: &mut [u16], kind: u8, location: u16, x: u16) -> bool
+    requires { ⌜ Testable (now ws) kind location × (kind ≢ SUM) ⌝ }
+    requires { ⌜ Calm (now ws) ⌝ }
+    ensures { λ r. ⌜ TestSays (now (ws .entry)) (now (ws .exit)) kind location x r ⌝ }
 {
-    if x < cells::cell(ws, FOR_SUMS, location) {
+    let table = FOR_READS + LOCATIONS * kind as usize;
+    if x < cells::cell(ws, table, location) {
         return false;
     }
-    let largest = cells::larger(cells::cell(ws, FOR_READS, location), x);
-    cells::put(ws, FOR_READS, location, largest);
+    keep(ws, FOR_SUMS, FOR_SUMS - table, location, x);
     true
 }
 
 // The position of the first access that races with an earlier one; `events` where there is none. Events before `from` have number 0: none of them races with
-// an earlier one, and none has the larger number.
+// an earlier one, and none has the larger number. Kinds below `quick` have one table to ask: reads and writes, up to the first sum.
 pub fn first_race(
     kinds: &[u8],
     operands: &[u16],
@@ -99,22 +97,22 @@ pub fn first_race(
     cells::clear(ws, TABLES);
     let mut current: u16 = 0;
     let mut number: u16 = 0;
-    let mut sums = false;
+    let mut quick = FORK;
     let mut t = from;
     while t < events {
         let kind = kinds[t];
-        if kind < FORK {
-            if !passes(ws, kind, operands[t], number, sums) {
+        if kind < quick {
+            if !quick_passes(ws, kind, operands[t], number) {
                 return t;
             }
-        } else if kind == SUM {
-            if !sum_passes(ws, operands[t], number) {
-                return t;
-            }
-            sums = true;
-        } else {
+        } else if trace::is_move(kind) {
             current += 1;
             number = ranks::open_number(ws, current);
+        } else {
+            if !passes(ws, kind, operands[t], number) {
+                return t;
+            }
+            quick = 0;
         }
         t += 1;
     }

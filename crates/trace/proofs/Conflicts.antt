@@ -4,7 +4,7 @@ use Prim.Native.Nat.{ℕ, _<_}
 use native.Mathlib.Omega.{arith}
 use mathlib.Core.Path.{_≡_, refl, sym, _∙_}
 use mathlib.Core.Logic.{_⊎_, inl, inr}
-use mathlib.Core.Bool.{true, not}
+use mathlib.Core.Bool.{true, not, _||_}
 use lib.Dec.{eqb}
 use Rattle.trace.specs.Trace.{Trace, READ, WRITE, SUM, isAccess}
 use Rattle.trace.specs.Race.{conflicting, Conflict}
@@ -23,18 +23,18 @@ test-conflicting j k =
     test-or _ _ (test-or _ _ (test-eq j WRITE) (test-eq k WRITE))
     (test-or _ _ (test-and _ _ (test-eq j READ) (test-eq k SUM)) (test-and _ _ (test-eq j SUM) (test-eq k READ)))
 
--- So a read conflicts with all but reads, a sum with all but sums, and a write with all: the test of the code.
-pub read-conflicts : (k : ℕ) → isAccess k ≡ true → not (eqb k READ) ≡ conflicting READ k
+-- So accesses of two kinds conflict, and so do two writes: the test of the code. All nine pairs are computed.
+pub conflict-by-kinds : (j k : ℕ) → isAccess j ≡ true → isAccess k ≡ true → (not (eqb j k) || eqb j WRITE) ≡ conflicting j k
 unfolding conflicting
-read-conflicts k a = either (test-access k .0 a) (λ e. rw e) (λ b. either b (λ e. rw e) (λ e. rw e))
+conflict-by-kinds j k first second =
+    either (test-access j .0 first) (λ e. rw e (with READ (refl, refl, refl)))
+    (λ b. either b (λ e. rw e (with WRITE (refl, refl, refl))) (λ e. rw e (with SUM (refl, refl, refl))))
+  where
+    Says : ℕ → ℕ → Type 0
+    Says j k = (not (eqb j k) || eqb j WRITE) ≡ conflicting j k
 
-pub sum-conflicts : (k : ℕ) → isAccess k ≡ true → not (eqb k SUM) ≡ conflicting SUM k
-unfolding conflicting
-sum-conflicts k a = either (test-access k .0 a) (λ e. rw e) (λ b. either b (λ e. rw e) (λ e. rw e))
-
-pub write-conflicts : (k : ℕ) → true ≡ conflicting WRITE k
-unfolding conflicting
-write-conflicts k = refl
+    with : (j : ℕ) → Says j READ × Says j WRITE × Says j SUM → Says j k
+    with j says = either (test-access k .0 second) (λ e. rw e (says .0)) (λ b. either b (λ e. rw e (says .1)) (λ e. rw e (says .2)))
 
 -- Event p writes the location l or adds to it.
 abbrev pub Changes : Trace → ℕ → ℕ → Type 0

@@ -34,17 +34,14 @@ pub fn is_move(kind: u8) -> bool
     (FORK <= kind) & (kind <= HALT)
 }
 
-// Whether accesses of these kinds to one location conflict: 0 is a read, 5 a sum, and a write conflicts with each.
+// Whether accesses of these kinds to one location conflict: those of two kinds do, and so do two writes. A match would branch on the kind, which no processor
+// can predict.
 pub fn is_conflict(kind: u8, other: u8) -> bool
     requires { ⌜ isAccess kind ≡ true ⌝ }
     requires { ⌜ isAccess other ≡ true ⌝ }
     ensures { λ r. ⌜ r ≡ conflicting kind other ⌝ }
 {
-    match kind {
-        0 => other != READ,
-        5 => other != SUM,
-        _ => true,
-    }
+    (kind != other) | (kind == WRITE)
 }
 
 // The accesses counted up from 0, for a table for each: a read, a write, a sum.
