@@ -49,7 +49,7 @@ const FEW_RECORDS: u64 = 16;
 
 // ---- the tally
 
-// The table that an access is counted in. It is computed, since no processor can predict a branch on the kind.
+// The table that an access is counted in.
 fn counts_of(kind: u8) -> usize
     requires { ⌜ isAccess kind ≡ true ⌝ }
     ensures { λ r. ⌜ (r ≡ countsOf kind) × (r + LOCATIONS ≤ TALLY-CELLS) ⌝ }

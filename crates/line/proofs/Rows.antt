@@ -1,17 +1,18 @@
 -- Laws of the rows of a step, premises spelt as the code's tests and its callees' contracts are. The set `rows` holds them for `search`, which then
 -- peels the tests one by one. Assumes nothing.
 use Prim.Native.Nat.{ℕ, _≤_, _<_}
-use mathlib.Core.Path.{_≡_, sym, ap, _∙_}
+use mathlib.Core.Path.{_≡_, refl, sym, ap, _∙_}
 use mathlib.Core.Bool.{Bool, true, false, not}
 use mathlib.Core.List.{List}
 use mathlib.Core.Logic.{_≢_}
+use native.Mathlib.Omega.{arith}
 use lib.Dec.{eqb, leb}
 use borrow.Author.Tests.{le-leb, lt-leb, eq-eqb, ne-eqb}
 use Rattle.trace.specs.Trace.{FORK, JOIN, SUM, LOCATIONS, isKind, isAccess}
 use Rattle.trace.proofs.Tests.{by-test}
 use Rattle.trace.proofs.EventKinds.{rest-is-halt}
 use Rattle.line.specs.declared.Line.{Line}
-use Rattle.line.specs.Rules.{Rule, Access, Fork, Join, Halt, ruleOf}
+use Rattle.line.specs.Rules.{Rule, Access, Fork, Join, Halt, Unknown, ruleOf}
 use Rattle.line.specs.Steps.{Stepped, goes, rowed, afterIn, rowIn, locationRow, locationIn, actIn}
 
 -- ---- tests: u is what the code read of v
@@ -65,6 +66,10 @@ pub location-told : (c : List ℕ) (line : Line) (row a : ℕ) → row ≡ locat
 unfolding rowed rowIn locationRow locationIn
 location-told c line row a e = by-test (leb LOCATIONS a) (λ f. rw (e, f)) (λ f. rw (e, f))
 
+pub unknown-told : (c : List ℕ) (line : Line) (a : ℕ) → rowed line 5 c ≡ actIn c line Unknown a
+unfolding rowed actIn
+unknown-told c line a = refl
+
 -- The row of the rule that the match over the kind chose.
 pub act-told :
     (c exit : List ℕ) (line : Line) (row : ℕ) (r rule : Rule) (a : ℕ) → r ≡ rule → rowed (afterIn line r) row exit ≡ actIn c line r a
@@ -75,11 +80,11 @@ pub ruleset rows = (row-met, row-passed, row-goes, not-met, not-passed, le-leb, 
 
 -- ---- the rule of a kind
 
-pub rule-access : (k : ℕ) → isKind k ≡ true → k ≢ 2 → k ≢ 3 → k ≢ 4 → Access ≡ ruleOf k
-unfolding ruleOf
-rule-access k named fork join halt =
+pub rule-access : (k : ℕ) → k ≤ SUM → k ≢ 2 → k ≢ 3 → k ≢ 4 → Access ≡ ruleOf k
+unfolding ruleOf isKind
+rule-access k low fork join halt =
     by-test (isAccess k) (λ a. rw a)
-    (λ a. absurd (halt (rest-is-halt k named a (ne-eqb k FORK fork) (ne-eqb k JOIN join))))
+    (λ a. absurd (halt (rest-is-halt k (le-leb k SUM low) a (ne-eqb k FORK fork) (ne-eqb k JOIN join))))
 
 pub rule-fork : (k : ℕ) → k ≡ 2 → Fork ≡ ruleOf k
 unfolding ruleOf isAccess
@@ -92,6 +97,12 @@ rule-join k e = rw e
 pub rule-halt : (k : ℕ) → k ≡ 4 → Halt ≡ ruleOf k
 unfolding ruleOf isAccess
 rule-halt k e = rw e
+
+pub rule-unknown : (k : ℕ) → SUM < k → Unknown ≡ ruleOf k
+unfolding ruleOf isAccess
+rule-unknown k h =
+    let no : (j : ℕ) → j ≤ SUM → eqb k j ≡ false = λ j i. ne-eqb k j (λ e. omega arith) in
+    rw (no 0 (omega arith), no 1 (omega arith), no 2 (omega arith), no 3 (omega arith), no 4 (omega arith), no 5 (omega arith))
 
 -- ---- row 5
 

@@ -1,10 +1,9 @@
 // The rules over the line of tasks: the two stacks that the line is, in the cells of one lent workspace, and one event's rows.
 // The definitions in `specs/` say what each function leaves in the cells; the laws in `proofs/` tie these cells to the run of a trace.
 ghost use mathlib.Core.Path.{_≡_};
-ghost use mathlib.Core.Bool.{true};
 ghost use Prim.Native.Nat.{_+_, _-_, _≤_, _<_};
 ghost use lib.ListN.{length};
-ghost use Rattle.trace.specs.Trace.{isKind, TASKS, WORKSPACE-CELLS};
+ghost use Rattle.trace.specs.Trace.{TASKS, WORKSPACE-CELLS};
 ghost use Rattle.line.specs.Rules.{Fork, Join, Halt, ruleOf};
 ghost use Rattle.line.specs.Cells.{depths, runningIn, nearestIn, startedIn, forkedIn, haltedIn};
 ghost use Rattle.line.specs.Steps.{afterIn, Movable, rowed, locationRow, forkIn, joinIn, haltIn, actIn, eventIn};
@@ -141,19 +140,19 @@ fn halt_row(ws: &mut [u16], line: Line, operand: u16) -> usize
     0
 }
 
-// The one row for the event's kind: 2 is a fork, 3 a join, 4 a halt, and what else the documents name is an access. The match names the moves alone and calls
-// the rule's function itself: with the accesses named too, whose numbers do not stand together, or by way of a value for the rule, which is matched again, it
-// compiles to a jump table, and random traces take a seventh longer.
+// The one row for the event's kind: 2 is a fork, 3 a join, 4 a halt, there is none from 6 on, and the others are accesses. The match calls the rule's function
+// itself and does not name the accesses, whose numbers do not stand together: with them, or by way of a value for the rule, which is matched again, it compiles
+// to a jump table, and random traces take a seventh longer.
 fn act(ws: &mut [u16], line: Line, kind: u8, operand: u16) -> usize
     requires { ⌜ Sound (now ws) line ⌝ }
     requires { ⌜ 0 < line .active ⌝ }
-    requires { ⌜ isKind kind ≡ true ⌝ }
     ensures { λ r. ⌜ rowed (afterIn line (ruleOf kind)) r (now (ws .exit)) ≡ actIn (now (ws .entry)) line (ruleOf kind) operand ⌝ }
 {
     match kind {
         2 => fork_row(ws, line, operand),
         3 => join_row(ws, line, operand),
         4 => halt_row(ws, line, operand),
+        6..=255 => 5,
         _ => location_row(operand),
     }
 }
