@@ -4,7 +4,7 @@ use Prim.Native.Nat.{ℕ}
 use mathlib.Core.Path.{_≡_, refl}
 use mathlib.Core.List.{List, [], _∷_}
 use Rattle.trace.proofs.Table.{computed as Table·computed}
-use Rattle.form.specs.Form.{decimal}
+use Rattle.numbers.specs.Decimal.{decimal}
 use Rattle.form.specs.Runs.{computed as Text·computed}
 use Rattle.output.specs.Output.{orderLines, output}
 use Rattle.answer.specs.Answer.{zeros, judged, judgedEvents, printed, textAnswer}

@@ -1,11 +1,11 @@
 // The program's answer to a text, from its bytes to the bytes of the whole output.
 pub use output::OUTPUT_BYTES;
 use sizes::WORKSPACE_CELLS;
-use text::Translation;
 use text::limits::MAX_TEXT_EVENTS;
 pub use text::limits::TEXT_BYTES;
 use trace::Answer;
 use trace::Refusal;
+use trace::Translation;
 ghost use mathlib.Core.Path.{_≡_};
 ghost use mathlib.Core.List.{[]};
 ghost use Rattle.trace.specs.Outcome.{refused};

@@ -7,7 +7,10 @@ ghost use Rattle.trace.specs.Lent.{lentTrace};
 ghost use Rattle.trace.specs.Outcome.{judgeOutcome, orderingOutcome};
 ghost use Rattle.trace.specs.Slices.{slices};
 ghost use Rattle.trace.specs.Demands.{JudgeDemand1, JudgeDemand2, JudgeDemand3, JudgeLinks};
-ghost use Rattle.told.specs.Codes.{heard, heardLinks, judgeCall, judgeSeen, orderingCall, orderingSeen, translateCall, translateSeen, TranslateTells};
+ghost use Rattle.plan.specs.Decided.{DecidedBy, TracesPlan};
+ghost use Rattle.plan.specs.Tracing.{planned};
+ghost use Rattle.told.specs.Codes.{heard, heardLinks, judgeCall, judgeSeen, orderingCall, orderingSeen};
+ghost use Rattle.told.specs.Codes.{heardTrace, translationCall, translateCall, translateSeen, TranslateTells};
 ghost use Rattle.cards.specs.Cards.{withCards, cardsOutcome, cardsCall, cardsSeen};
 ghost use Rattle.cards.specs.Demands.{CardsHeld, CardsDemand1, CardsDemand2};
 ghost use Rattle.cards.specs.Tally.{cardIn, Tables};
@@ -72,6 +75,25 @@ pub extern "C" fn racejudge_translate(
         (translateSeen r (now (values .exit)) (slices (now (kinds .exit)) (now (tasks .exit)) (now (operands .exit)))) ⌝ }
 {
     told::translate(text, kinds, tasks, operands, values)
+}
+
+// A plan to a trace.
+#[no_mangle]
+pub extern "C" fn racejudge_plan(
+    text: &[u8],
+    kinds: &mut [u8],
+    tasks: &mut [u16],
+    operands: &mut [u16],
+    values: &mut [u64; 2],
+) -> u64
+    ensures outcome { λ r. ⌜ translateSeen r (now (values .exit)) (slices (now (kinds .exit)) (now (tasks .exit)) (now (operands .exit)))
+        ≡ translationCall (planned (now (text .entry)) (slices (now (kinds .entry)) (now (tasks .entry)) (now (operands .entry)))) ⌝ }
+    ensures grammar { λ r. ⌜ DecidedBy (now (text .entry)) (slices (now (kinds .entry)) (now (tasks .entry)) (now (operands .entry)))
+        (heardTrace r (now (values .exit)) (slices (now (kinds .exit)) (now (tasks .exit)) (now (operands .exit)))) ⌝ }
+    ensures trace { λ r. ⌜ TracesPlan (now (text .entry))
+        (heardTrace r (now (values .exit)) (slices (now (kinds .exit)) (now (tasks .exit)) (now (operands .exit)))) ⌝ }
+{
+    told::plan(text, kinds, tasks, operands, values)
 }
 
 // Stores the first k cards.

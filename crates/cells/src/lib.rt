@@ -1,7 +1,9 @@
-// Cells of the one workspace that callers lend: twelve tables of 1,024 cells, then one cell for each event. Table k starts at cell k * 1,024.
+// Cells of the one workspace that callers lend: twelve tables of 1,024 cells, then one cell for each event. Table k starts at cell k * 1,024. And the one writer of
+// events, to three lent slices.
 ghost use mathlib.Core.Path.{_≡_};
 ghost use Prim.Native.Nat.{max, _+_, _≤_, _<_};
 ghost use lib.ListN.{length, getD, set};
+ghost use Rattle.trace.specs.Slices.{slices, store, Room};
 ghost use Rattle.cells.specs.Cells.{zeroed, NUMBER, numberIn};
 
 // The cell of event 0, past the tables. From here on each event's number stands, once the events have numbers.
@@ -47,4 +49,24 @@ pub fn number(ws: &[u16], p: usize) -> u16
     ensures { λ r. ⌜ r ≡ numberIn (now (ws .entry)) p ⌝ }
 {
     ws[NUMBER + p]
+}
+
+// Event `at` of a trace.
+pub fn store_event(
+    kinds: &mut [u8],
+    tasks: &mut [u16],
+    operands: &mut [u16],
+    at: usize,
+    kind: u8,
+    task: u16,
+    operand: u16,
+)
+    requires { ⌜ Room (slices (now kinds) (now tasks) (now operands)) (at + 1) ⌝ }
+    ensures { λ _. ⌜ slices (now (kinds .exit)) (now (tasks .exit)) (now (operands .exit))
+        ≡ store (slices (now (kinds .entry)) (now (tasks .entry)) (now (operands .entry))) at
+        (record { kind = kind; task = task; operand = operand }) ⌝ }
+{
+    kinds[at] = kind;
+    tasks[at] = task;
+    operands[at] = operand;
 }

@@ -10,7 +10,7 @@ use Rattle.form.specs.Events.{halts, above, implied, eventsOf, pushed, s
 use Rattle.form.specs.declared.Line.{Line}
 use Rattle.form.specs.declared.Operation.{Operation}
 use Rattle.form.specs.declared.Operation.the-variants.{Read, Write, Fork, Join}
-use Rattle.form.proofs.Tokens.{by-token}
+use Rattle.numbers.proofs.Tokens.{by-token}
 
 pub implied-le : (task : ℕ) (stack : List ℕ) → implied task stack ≤ length stack
 implied-le task [] = omega arith

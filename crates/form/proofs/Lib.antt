@@ -1,6 +1,4 @@
 -- The theorems on the text form, with no code in sight: `Lines`, `TextForm`, `LongTexts`, `Accepted`.
-pub mod Tokens
-pub mod Decimal
 pub mod Lines
 pub mod Parsing
 pub mod TextForm

@@ -9,13 +9,15 @@ use lib.Dec.{eqb}
 use lib.ListN.{length, length-append}
 use borrow.Author.Tests.{eqb-true, eq-eqb}
 use Rattle.trace.proofs.Tests.{by-test}
-use Rattle.form.specs.Form.{decimal, GREATEST, opening, print, InRange}
-use Rattle.form.specs.Reading.{word, digit, opens, operation, field, line}
+use Rattle.numbers.specs.Decimal.{decimal}
+use Rattle.numbers.specs.Reading.{digit}
+use Rattle.form.specs.Form.{GREATEST, opening, print, InRange}
+use Rattle.form.specs.Reading.{word, opens, operation, field, line}
 use Rattle.form.specs.declared.Line.{Line}
 use Rattle.form.specs.declared.Operation.{Operation}
 use Rattle.form.specs.declared.Operation.the-variants.{Read, Write, Fork, Join}
-use Rattle.form.proofs.Tokens.{Each, nothing, found, each-some, each-map, each-then, each-else}
-use Rattle.form.proofs.Decimal.{number-decimal, number-printed, length-decimal}
+use Rattle.numbers.proofs.Tokens.{Each, nothing, found, each-some, each-map, each-then, each-else}
+use Rattle.numbers.proofs.Decimal.{number-decimal, number-printed, length-decimal}
 
 -- ---- what is printed is read
 
@@ -33,7 +35,7 @@ field-decimal : (before : List ℕ) (n a : ℕ) (after s : List ℕ) → n ≤ G
     → field before (a ∷ after) (before ++ (decimal n ++ (a ∷ (after ++ s)))) ≡ some (n, s)
 unfolding field
 field-decimal before n a after s h e =
-    rw (word-append before (decimal n ++ (a ∷ (after ++ s))), number-decimal n a (after ++ s) h e, word-append (a ∷ after) s)
+    rw (word-append before (decimal n ++ (a ∷ (after ++ s))), number-decimal GREATEST (omega arith) (omega arith) n a (after ++ s) h e, word-append (a ∷ after) s)
 
 pub line-print : (l : Line) (rest : List ℕ) → InRange l → line (print l ++ rest) ≡ some (l, rest)
 unfolding line digit
@@ -71,7 +73,7 @@ field-printed : (before after s : List ℕ) → Each (λ n. FieldPrinted before 
 unfolding field
 field-printed before after s =
     each-then _ (word-printed before s)
-    (λ s₁ h₁. each-then _ (number-printed s₁)
+    (λ s₁ h₁. each-then _ (number-printed GREATEST (omega arith) (omega arith) s₁)
     (λ n p. each-then _ (word-printed after (n .1))
     (λ s₂ h₂. found (record { in-range = p .in-range; bytes = rw (h₁, p .bytes, h₂) }))))
 

@@ -17,7 +17,7 @@ use Rattle.form.specs.Events.{eventsOf, stackAfter}
 use Rattle.form.specs.Decided.{MAX-TEXT-EVENTS}
 use Rattle.form.specs.Translation.{eventsFrom, FIRST-LINE, translation, translated}
 use Rattle.form.specs.declared.Line.{Line}
-use Rattle.form.proofs.Tokens.{by-token}
+use Rattle.numbers.proofs.Tokens.{by-token}
 use Rattle.form.proofs.Lines.{line-print, line-printed, length-print}
 use Rattle.form.proofs.Parsing.{length-after-line, parse-none, parse-line}
 use Rattle.form.proofs.EventCounts.{length-events}

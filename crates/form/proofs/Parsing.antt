@@ -8,7 +8,7 @@ use mathlib.Core.Option.{none, some}
 use lib.ListN.{length, length-append}
 use Rattle.form.specs.Reading.{line, ends, malformed, line-then, parseWithin, parse}
 use Rattle.form.specs.declared.Line.{Line}
-use Rattle.form.proofs.Tokens.{by-token}
+use Rattle.numbers.proofs.Tokens.{by-token}
 use Rattle.form.proofs.Lines.{line-printed}
 
 -- A line takes a byte at least.

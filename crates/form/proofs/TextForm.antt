@@ -12,15 +12,15 @@ use lib.ListN.{length, length-append}
 use borrow.Author.Tests.{ltb-true, ltb-false, lt-ltb, le-ltb}
 use Rattle.trace.specs.Trace.{Event}
 use Rattle.trace.specs.Outcome.{Reply, says, refused}
-use Rattle.trace.specs.Slices.{Slices}
+use Rattle.trace.specs.Slices.{Slices, Translated, leaving}
 use Rattle.trace.proofs.Tests.{by-test}
 use Rattle.form.specs.Form.{print, printAll, InRange, AllInRange, no-line, one-more, LinesBefore, OfForm, BeginsWithNoLine}
 use Rattle.form.specs.Events.{eventsOf, stackAfter, eventsOfAll}
-use Rattle.form.specs.Decided.{MAX-TEXT-EVENTS, Decided, accepted, not-of-form, too-many, Translated, leaving, DecidedBy}
+use Rattle.form.specs.Decided.{MAX-TEXT-EVENTS, Decided, accepted, not-of-form, too-many, DecidedBy}
 use Rattle.form.specs.Reading.{line, Parsed, ends, malformed, line-then, parse}
 use Rattle.form.specs.Translation.{eventsFrom, FIRST-LINE, translation, translated}
 use Rattle.form.specs.declared.Line.{Line}
-use Rattle.form.proofs.Tokens.{by-token}
+use Rattle.numbers.proofs.Tokens.{by-token}
 use Rattle.form.proofs.Lines.{line-print, line-printed}
 use Rattle.form.proofs.Parsing.{length-after-line, parse-nil, parse-none, parse-line}
 

@@ -6,7 +6,7 @@ use mathlib.Core.Path.{_≡_}
 use mathlib.Core.List.{List, [], _∷_, _++_}
 use lib.ListN.{length}
 use Rattle.trace.specs.Trace.{Event}
-use Rattle.trace.specs.Slices.{Slices, storeAll}
+use Rattle.trace.specs.Slices.{Slices, Translated, leaving}
 use Rattle.trace.specs.Outcome.{Reply, says, refused}
 use Rattle.form.specs.Form.{print, InRange, LinesBefore, OfForm, BeginsWithNoLine}
 use Rattle.form.specs.Events.{eventsOfText}
@@ -33,16 +33,6 @@ pub data Decided (text : List ℕ) : Reply (List Event) → Type 0 where
       → Decided text (refused 15 (length (before .lines)))
 
 -- ---- the lent slices
-
--- What the translation answers, and what it leaves in the three slices.
-pub record Translated : Type 0 where
-  pub answer : Reply ℕ
-  pub slices : Slices
-
--- The number of events, with the events in the slices from their start on; or the refusal, with the slices as they were.
-abbrev pub leaving : Slices → Reply (List Event) → Translated
-leaving b (says es) = record { answer = says (length es); slices = storeAll b 0 es }
-leaving b (refused number position) = record { answer = refused number position; slices = b }
 
 -- THE MEANING OF AN OUTCOME, at the text and the three slices as they were.
 pub record DecidedBy (text : List ℕ) (b : Slices) (outcome : Translated) : Type 0 where

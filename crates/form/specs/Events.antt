@@ -6,7 +6,7 @@ use mathlib.Core.Option.{Option, none, some}
 use lib.Dec.{eqb}
 use lib.ListN.{drop}
 use Rattle.trace.specs.Trace.{Event, READ, WRITE, FORK, JOIN, HALT}
-use Rattle.form.specs.Options.{maybe, _then_}
+use Rattle.numbers.specs.Options.{maybe, _then_}
 use Rattle.form.specs.declared.Line.{Line}
 use Rattle.form.specs.declared.Operation.{Operation}
 use Rattle.form.specs.declared.Operation.the-variants.{Read, Write, Fork, Join}

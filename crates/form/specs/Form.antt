@@ -1,22 +1,12 @@
 -- The text form (document 01, "The text form"), by printing: a text is of the form exactly if it is the printed lines of some list of lines.
 -- Bytes are ASCII codes. Assumes nothing.
-use Prim.Native.Nat.{ℕ, zero, suc, _+_, _/_, _%_, _≤_}
+use Prim.Native.Nat.{ℕ, _≤_}
 use mathlib.Core.Path.{_≡_}
-use mathlib.Core.Bool.{cond}
 use mathlib.Core.List.{List, [], _∷_, _++_}
-use lib.Dec.{ltb}
+use Rattle.numbers.specs.Decimal.{decimal}
 use Rattle.form.specs.declared.Line.{Line}
 use Rattle.form.specs.declared.Operation.{Operation}
 use Rattle.form.specs.declared.Operation.the-variants.{Read, Write, Fork, Join}
-
--- n in base ten with no leading zero, in at most `suc more` digits.
-abbrev pub digits : ℕ → ℕ → List ℕ
-digits zero n = (48 + n) ∷ []
-digits (suc more) n = cond (ltb n 10) ((48 + n) ∷ []) (digits more (n / 10) ++ ((48 + n % 10) ∷ []))
-
--- "decimal, .. with no leading zero". Twenty digits are enough for every number below 2 to the power of 64.
-unfoldable pub decimal : ℕ → List ℕ
-decimal n = digits 19 n
 
 -- "0 to 65,535"
 abbrev pub GREATEST : ℕ

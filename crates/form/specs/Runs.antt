@@ -4,8 +4,10 @@ use mathlib.Core.Path.{_≡_, refl}
 use mathlib.Core.List.{List, [], _∷_, _++_}
 use Rattle.trace.specs.Trace.{Event}
 use Rattle.trace.specs.Outcome.{Reply, says, refused}
-use Rattle.form.specs.Form.{decimal, printAll}
-use Rattle.form.specs.Reading.{digit, isWhole, tooLarge, extended, field, line, parse}
+use Rattle.numbers.specs.Decimal.{decimal}
+use Rattle.numbers.specs.Reading.{digit, isWhole, tooLarge, extended}
+use Rattle.form.specs.Form.{printAll}
+use Rattle.form.specs.Reading.{field, line, parse}
 use Rattle.form.specs.Events.{haltOperand, eventsOf, stackAfter}
 use Rattle.form.specs.Translation.{translation}
 use Rattle.form.specs.declared.Line.{Line}

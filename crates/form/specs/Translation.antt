@@ -6,11 +6,11 @@ use mathlib.Core.List.{List, [], _∷_, _++_}
 use lib.Dec.{ltb}
 use lib.ListN.{length}
 use Rattle.trace.specs.Trace.{Event}
-use Rattle.trace.specs.Slices.{Slices}
+use Rattle.trace.specs.Slices.{Slices, Translated, leaving}
 use Rattle.trace.specs.Outcome.{Reply, says, refused}
 use Rattle.trace.specs.declared.Refusal.{Refusal}
 use Rattle.form.specs.Events.{eventsOf, stackAfter}
-use Rattle.form.specs.Decided.{MAX-TEXT-EVENTS, Translated, leaving}
+use Rattle.form.specs.Decided.{MAX-TEXT-EVENTS}
 use Rattle.form.specs.Reading.{Parsed, ends, malformed, line-then, parse}
 
 -- Row 14 at a line: "a line isn't of the text form".

@@ -16,7 +16,7 @@ use Rattle.trace.specs.declared.Refusal.{Refusal}
 use Rattle.form.specs.Decided.{MAX-TEXT-EVENTS}
 use Rattle.output.specs.Output.{CLEAN, RACE, REFUSED, rest, orderLine, orderLines, output, Buffer, buffer, addByte, add, OUTPUT-BYTES}
 use Rattle.output.specs.Output.{ofText, rendered}
-use Rattle.form.proofs.Decimal.{length-decimal-le}
+use Rattle.numbers.proofs.Decimal.{length-decimal-le}
 
 -- ---- the length of an output
 

@@ -9,9 +9,9 @@ use lib.ListN.{length, getD, take, drop, set, length-set, drop-of-length-le}
 use lib.Seq.{drop-cons}
 use borrow.Author.Tests.{lt-ltb, le-ltb}
 use Rattle.trace.proofs.Tests.{by-test}
-use Rattle.form.specs.Form.{decimal}
+use Rattle.numbers.specs.Decimal.{decimal}
 use Rattle.output.specs.Output.{rest, orderLine, Buffer, buffer, addByte, add}
-use Rattle.form.proofs.Decimal.{decimal-digit, NUMBERS, decimal-split}
+use Rattle.numbers.proofs.Decimal.{decimal-digit, NUMBERS, decimal-split}
 
 pub add-append : (b : Buffer) (s t : List ℕ) → add b (s ++ t) ≡ add (add b s) t
 add-append b [] t = refl

@@ -5,7 +5,7 @@ use mathlib.Core.List.{List, [], _∷_, _++_}
 use lib.Dec.{leb, ltb}
 use lib.ListN.{length, take, drop, set}
 use Rattle.trace.specs.Outcome.{Reply, says, refused, Verdict, clean, race}
-use Rattle.form.specs.Form.{decimal}
+use Rattle.numbers.specs.Decimal.{decimal}
 use Rattle.form.specs.Decided.{MAX-TEXT-EVENTS}
 
 -- `clean`, `race`, `refused`

@@ -5,7 +5,7 @@ use mathlib.Core.List.{List, [], _∷_}
 use lib.ListN.{replicate}
 use Rattle.trace.specs.Outcome.{says, refused, clean, Outcome, judgeOutcome}
 use Rattle.trace.proofs.Table.{computed}
-use Rattle.form.specs.Form.{decimal}
+use Rattle.numbers.specs.Decimal.{decimal}
 use Rattle.output.specs.Output.{orderLines, output}
 
 -- What the judge answers and leaves, of the events of document 01's example: `0 fork 1`, `1 write 5`, `1 halt`, `0 read 5`.

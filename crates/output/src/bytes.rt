@@ -4,7 +4,7 @@ ghost use mathlib.Core.Path.{_≡_};
 ghost use Prim.Native.Nat.{_-_, _≤_, _<_, min};
 ghost use mathlib.Core.List.{[], _∷_, _++_};
 ghost use lib.ListN.{length, take, drop};
-ghost use Rattle.form.specs.Form.{decimal};
+ghost use Rattle.numbers.specs.Decimal.{decimal};
 ghost use Rattle.form.specs.Decided.{MAX-TEXT-EVENTS};
 ghost use Rattle.output.specs.Output.{CLEAN, RACE, REFUSED, rest, orderLine, orderLines, buffer, addByte, add};
 

@@ -8,7 +8,7 @@ use mathlib.Core.Option.{Option, none, some}
 use lib.ListN.{getD}
 use borrow.Author.Tests.{eq-eqb, ne-eqb}
 use Rattle.trace.specs.Slices.{Slices, store, storeAll}
-use Rattle.form.specs.Options.{_then_}
+use Rattle.numbers.specs.Options.{_then_}
 use Rattle.form.specs.Events.{haltOperand, halt, halts, above, implied}
 use Rattle.text.specs.Answers.{tasksOf}
 

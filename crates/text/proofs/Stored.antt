@@ -8,16 +8,16 @@ use lib.ListN.{length, take, drop, replicate, length-append, length-map, length-
 use lib.Seq.{take-at}
 use Rattle.trace.specs.Trace.{Event}
 use Rattle.trace.specs.Outcome.{Reply, says, refused}
-use Rattle.trace.specs.Slices.{Slices, slices}
+use Rattle.trace.specs.Slices.{Slices, slices, Room, Translated}
+use Rattle.trace.specs.Answers.{translationReply, translatedOf}
 use Rattle.trace.specs.declared.Refusal.{Refusal}
 use Rattle.trace.proofs.Sizes.{refused-not-says}
-use Rattle.trace.proofs.Slices.{Room, After}
-use Rattle.form.specs.Decided.{MAX-TEXT-EVENTS, Translated}
+use Rattle.trace.proofs.Slices.{After}
+use Rattle.form.specs.Decided.{MAX-TEXT-EVENTS}
 use Rattle.form.specs.Translation.{translation, translated}
 use Rattle.form.proofs.Accepted.{Sized, slices-after}
-use Rattle.text.specs.Answers.{translationReply, translatedOf}
-use Rattle.text.specs.declared.Translation.{Translation}
-use Rattle.text.specs.declared.Translation.the-variants.{Events, Refused}
+use Rattle.trace.specs.declared.Translation.{Translation}
+use Rattle.trace.specs.declared.Translation.the-variants.{Events, Refused}
 
 by-reply : {A : Type 0} {C : Type 0} (reply : Reply A) → ((a : A) → reply ≡ says a → C) → ((number position : ℕ) → reply ≡ refused number position → C) → C
 by-reply (says a) f g = f a refl

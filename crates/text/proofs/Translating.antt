@@ -12,15 +12,16 @@ use lib.ListN.{length, getD, drop, length-append, length-drop, drop-of-length-le
 use borrow.Author.Tests.{ltb-false}
 use Rattle.trace.specs.Trace.{Event}
 use Rattle.trace.specs.Outcome.{Reply, says, refused}
-use Rattle.trace.specs.Slices.{Slices, storeAll}
+use Rattle.trace.specs.Slices.{Slices, storeAll, Translated, leaving}
+use Rattle.trace.specs.Answers.{translationReply, translatedOf}
 use Rattle.trace.specs.declared.Refusal.{Refusal}
 use Rattle.trace.proofs.Tests.{by-test}
 use Rattle.trace.proofs.Slices.{storeAll-append}
 use Rattle.form.specs.Reading.{line, parse}
 use Rattle.form.specs.Events.{eventsOf, stackAfter}
-use Rattle.form.specs.Decided.{MAX-TEXT-EVENTS, Translated, leaving, DecidedBy}
+use Rattle.form.specs.Decided.{MAX-TEXT-EVENTS, DecidedBy}
 use Rattle.form.specs.Translation.{malformedAt, tooManyAt, refusal, prepend, eventsFrom, FIRST-LINE, translation, translated}
-use Rattle.text.specs.Answers.{translationReply, translatedOf, attemptOf, attempted, afterLine, tasksOf, STACK-CELLS, StackAfter}
+use Rattle.text.specs.Answers.{attemptOf, attempted, afterLine, tasksOf, STACK-CELLS, StackAfter}
 use Rattle.text.specs.Answers.{added, addedOf}
 use Rattle.text.specs.declared.cursor.Cursor.{Cursor}
 use Rattle.form.specs.declared.Line.{Line}
@@ -28,8 +29,8 @@ use Rattle.text.specs.declared.cursor.LineToken.{LineToken}
 use Rattle.text.specs.declared.cursor.LineToken.the-variants.{Whole, Malformed}
 use Rattle.text.specs.declared.events.Added.{Added}
 use Rattle.text.specs.declared.events.Added.the-variants.{To, TooMany}
-use Rattle.text.specs.declared.Translation.{Translation}
-use Rattle.text.specs.declared.Translation.the-variants.{Events, Refused}
+use Rattle.trace.specs.declared.Translation.{Translation}
+use Rattle.trace.specs.declared.Translation.the-variants.{Events, Refused}
 use Rattle.form.proofs.Parsing.{length-after-line, parse-nil, parse-none, parse-line}
 use Rattle.form.proofs.EventCounts.{length-events, length-stack-after}
 use Rattle.text.proofs.StackLaws.{length-tasks}

@@ -1,5 +1,4 @@
--- What each answer of the code says: document 01's number and values for the translation's, the token and the bytes after it for the cursor's, and
--- what the stack holds for the inner functions. The promises go through these. Assumes nothing.
+-- What each answer of the code says: the token and the bytes after it for the cursor's, and what the slices and the stack hold for the inner functions. The promises go through these. Assumes nothing.
 use Prim.Native.Nat.{ℕ, zero, suc, _+_, _-_, _≤_}
 use mathlib.Core.Path.{_≡_}
 use mathlib.Core.Bool.{cond}
@@ -10,39 +9,28 @@ use lib.ListN.{length, getD, drop}
 use Rattle.trace.specs.Trace.{Event}
 use Rattle.trace.specs.Outcome.{Reply, says, refused}
 use Rattle.trace.specs.Slices.{Slices, storeAll}
-use Rattle.form.specs.Reading.{Token}
+use Rattle.trace.specs.declared.Translation.{Translation}
+use Rattle.trace.specs.declared.Translation.the-variants.{Events, Refused}
+use Rattle.numbers.specs.Reading.{Token}
 use Rattle.form.specs.Events.{eventsOf, stackAfter}
-use Rattle.form.specs.Decided.{MAX-TEXT-EVENTS, Translated}
+use Rattle.form.specs.Decided.{MAX-TEXT-EVENTS}
 use Rattle.form.specs.Translation.{refusal}
 use Rattle.form.specs.declared.Line.{Line}
 use Rattle.form.specs.declared.Operation.{Operation}
-use Rattle.text.specs.declared.cursor.Numeral.{Numeral}
-use Rattle.text.specs.declared.cursor.Numeral.the-variants.{Number, Stop}
 use Rattle.text.specs.declared.cursor.WordToken.{WordToken}
 use Rattle.text.specs.declared.cursor.WordToken.the-variants.{Matched, Mismatch}
-use Rattle.text.specs.declared.cursor.NumberToken.{NumberToken}
-use Rattle.text.specs.declared.cursor.NumberToken.the-variants.{Value, NoNumber}
+use Rattle.text.specs.declared.cursor.FieldToken.{FieldToken}
+use Rattle.text.specs.declared.cursor.FieldToken.the-variants.{Field, NoField}
 use Rattle.text.specs.declared.cursor.OperationToken.{OperationToken}
 use Rattle.text.specs.declared.cursor.OperationToken.the-variants.{Known, NoOperation}
 use Rattle.text.specs.declared.cursor.LineToken.{LineToken}
 use Rattle.text.specs.declared.cursor.LineToken.the-variants.{Whole, Malformed}
 use Rattle.text.specs.declared.events.Added.{Added}
 use Rattle.text.specs.declared.events.Added.the-variants.{To, TooMany}
-use Rattle.text.specs.declared.Translation.{Translation}
-use Rattle.text.specs.declared.Translation.the-variants.{Events, Refused}
 
 -- ---- the translation
 
--- The number of events, or refused number position.
-unfoldable pub translationReply : Translation → Reply ℕ
-translationReply (Events count) = says count
-translationReply (Refused r) = refused (r .number) (r .position)
-
--- An answer with the slices that it leaves.
-abbrev pub translatedOf : Translation → Slices → Translated
-translatedOf r b = record { answer = translationReply r; slices = b }
-
--- The same where only an accepted text says what the slices hold.
+-- An answer where only an accepted text says what the slices hold.
 abbrev pub attemptOf : Translation → Slices → Reply (ℕ × Slices)
 attemptOf (Events count) b = says (count, b)
 attemptOf (Refused r) b = refusal r
@@ -54,17 +42,13 @@ attempted (refused number position) count b = refused number position
 
 -- ---- the cursor's tokens
 
-abbrev pub numeralOf : Numeral → Option ℕ
-numeralOf (Number n) = some n
-numeralOf Stop = none
-
 abbrev pub afterWord : List ℕ → WordToken → Option (List ℕ)
 afterWord text (Matched next) = some (drop (next .at) text)
 afterWord text Mismatch = none
 
-abbrev pub afterNumber : List ℕ → NumberToken → Token ℕ
-afterNumber text (Value n next) = some (n, drop (next .at) text)
-afterNumber text NoNumber = none
+abbrev pub afterField : List ℕ → FieldToken → Token ℕ
+afterField text (Field n next) = some (n, drop (next .at) text)
+afterField text NoField = none
 
 abbrev pub afterOperation : List ℕ → OperationToken → Token Operation
 afterOperation text (Known o next) = some (o, drop (next .at) text)

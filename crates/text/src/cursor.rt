@@ -1,23 +1,18 @@
 // The tokens of a trace line, read left to right by a cursor by value: each method hands back the token with the moved cursor.
 use form::Line;
 use form::Operation;
+use numbers::NumberToken;
 ghost use mathlib.Core.Path.{_≡_};
 ghost use lib.ListN.{drop};
-ghost use Rattle.form.specs.Reading.{digit, extended, word, number, operation, field, line};
-ghost use Rattle.text.specs.Answers.{numeralOf, afterWord, afterNumber, afterOperation, afterLine};
+ghost use Rattle.form.specs.Reading.{word, operation, field, line};
+ghost use Rattle.text.specs.Answers.{afterWord, afterField, afterOperation, afterLine};
 
 // The greatest number of the text form.
-const GREATEST: u32 = 65535;
+const GREATEST: u16 = 65535;
 
 // A place in a text.
 pub struct Cursor {
     pub at: usize,
-}
-
-// A number so far, or the end of it.
-pub enum Numeral {
-    Number(u16),
-    Stop,
 }
 
 pub enum WordToken {
@@ -25,9 +20,9 @@ pub enum WordToken {
     Mismatch,
 }
 
-pub enum NumberToken {
-    Value(u16, Cursor),
-    NoNumber,
+pub enum FieldToken {
+    Field(u16, Cursor),
+    NoField,
 }
 
 pub enum OperationToken {
@@ -38,35 +33,6 @@ pub enum OperationToken {
 pub enum LineToken {
     Whole(Line, Cursor),
     Malformed,
-}
-
-fn read_digit(byte: u8) -> Numeral
-    ensures { λ r. ⌜ numeralOf r ≡ digit byte ⌝ }
-{
-    if byte < b'0' {
-        return Numeral::Stop;
-    }
-    if b'9' < byte {
-        return Numeral::Stop;
-    }
-    Numeral::Number((byte - b'0') as u16)
-}
-
-// The number `value` with the digit `byte` after it.
-fn extend(value: u16, byte: u8) -> Numeral
-    ensures { λ r. ⌜ numeralOf r ≡ extended value byte ⌝ }
-{
-    if value == 0 {
-        return Numeral::Stop;
-    }
-    let Numeral::Number(last) = read_digit(byte) else {
-        return Numeral::Stop;
-    };
-    let next = value as u32 * 10 + last as u32;
-    if GREATEST < next {
-        return Numeral::Stop;
-    }
-    Numeral::Number(next as u16)
 }
 
 impl Cursor {
@@ -87,29 +53,6 @@ impl Cursor {
             i += 1;
         }
         WordToken::Matched(Cursor { at })
-    }
-
-    // A decimal number, as long as it goes.
-    pub fn number(self, text: &[u8]) -> NumberToken
-        ensures { λ r. ⌜ afterNumber (now (text .entry)) r ≡ number (drop (self .at) (now (text .entry))) ⌝ }
-    {
-        let mut at = self.at;
-        if text.len() <= at {
-            return NumberToken::NoNumber;
-        }
-        let Numeral::Number(first) = read_digit(text[at]) else {
-            return NumberToken::NoNumber;
-        };
-        let mut value = first;
-        at += 1;
-        while at < text.len() {
-            let Numeral::Number(next) = extend(value, text[at]) else {
-                return NumberToken::Value(value, Cursor { at });
-            };
-            value = next;
-            at += 1;
-        }
-        NumberToken::Value(value, Cursor { at })
     }
 
     // An operation, up to the letter of its operand.
@@ -136,36 +79,36 @@ impl Cursor {
     }
 
     // A number between two words.
-    pub fn field(self, text: &[u8], before: &[u8], after: &[u8]) -> NumberToken
-        ensures { λ r. ⌜ afterNumber (now (text .entry)) r
+    pub fn field(self, text: &[u8], before: &[u8], after: &[u8]) -> FieldToken
+        ensures { λ r. ⌜ afterField (now (text .entry)) r
             ≡ field (now (before .entry)) (now (after .entry)) (drop (self .at) (now (text .entry))) ⌝ }
     {
         let WordToken::Matched(start) = self.word(text, before) else {
-            return NumberToken::NoNumber;
+            return FieldToken::NoField;
         };
-        let NumberToken::Value(value, end) = start.number(text) else {
-            return NumberToken::NoNumber;
+        let NumberToken::Value(value, end) = numbers::number_at(text, start.at, GREATEST) else {
+            return FieldToken::NoField;
         };
-        let WordToken::Matched(next) = end.word(text, after) else {
-            return NumberToken::NoNumber;
+        let WordToken::Matched(next) = (Cursor { at: end }).word(text, after) else {
+            return FieldToken::NoField;
         };
-        NumberToken::Value(value, next)
+        FieldToken::Field(value, next)
     }
 
     // A line from its T to its line feed.
     pub fn line(self, text: &[u8]) -> LineToken
         ensures { λ r. ⌜ afterLine (now (text .entry)) r ≡ line (drop (self .at) (now (text .entry))) ⌝ }
     {
-        let NumberToken::Value(task, past_task) = self.field(text, b"T", b"|") else {
+        let FieldToken::Field(task, past_task) = self.field(text, b"T", b"|") else {
             return LineToken::Malformed;
         };
         let OperationToken::Known(operation, past_opening) = past_task.operation(text) else {
             return LineToken::Malformed;
         };
-        let NumberToken::Value(operand, past_operand) = past_opening.field(text, b"", b")|") else {
+        let FieldToken::Field(operand, past_operand) = past_opening.field(text, b"", b")|") else {
             return LineToken::Malformed;
         };
-        let NumberToken::Value(source, next) = past_operand.field(text, b"", b"\n") else {
+        let FieldToken::Field(source, next) = past_operand.field(text, b"", b"\n") else {
             return LineToken::Malformed;
         };
         LineToken::Whole(

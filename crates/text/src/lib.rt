@@ -9,17 +9,13 @@ use crate::events::Added;
 use crate::limits::MAX_TEXT_EVENTS;
 use crate::limits::STACK_CELLS;
 use trace::Refusal;
+use trace::Translation;
 ghost use mathlib.Core.Path.{_≡_};
 ghost use Rattle.trace.specs.Slices.{slices};
+ghost use Rattle.trace.specs.Answers.{translatedOf};
 ghost use Rattle.form.specs.Decided.{DecidedBy};
 ghost use Rattle.form.specs.Translation.{malformedAt, tooManyAt, translation, translated};
-ghost use Rattle.text.specs.Answers.{attemptOf, attempted, translatedOf};
-
-// What a text comes to: the number of its events, or why it is turned back.
-pub enum Translation {
-    Events(usize),
-    Refused(Refusal),
-}
+ghost use Rattle.text.specs.Answers.{attemptOf, attempted};
 
 // "the line's number from 0"
 const FIRST_LINE: usize = 0;

@@ -3,3 +3,4 @@ pub mod Cases
 pub mod Heard
 pub mod Copies
 pub mod Translations
+pub mod Plans

@@ -12,8 +12,8 @@ use lib.ListN.{length, take, drop}
 use lib.Seq.{paste}
 use Rattle.trace.specs.Trace.{Event}
 use Rattle.trace.specs.Outcome.{refused}
-use Rattle.trace.specs.Slices.{Slices, slices, storeAll}
-use Rattle.trace.proofs.Slices.{Room, After, slices-hold}
+use Rattle.trace.specs.Slices.{Slices, slices, storeAll, Room}
+use Rattle.trace.proofs.Slices.{After, slices-hold}
 use Rattle.trace.proofs.Tests.{by-test, Tests, tests-fails, test-lt, test-or}
 use Rattle.form.specs.Decided.{MAX-TEXT-EVENTS}
 use Rattle.form.specs.Translation.{translation, translated}

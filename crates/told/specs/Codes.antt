@@ -8,8 +8,8 @@ use lib.Dec.{ltb}
 use lib.ListN.{length, getD}
 use lib.Seq.{paste}
 use Rattle.trace.specs.Outcome.{Reply, says, refused, Verdict, clean, race, Outcome, OrderingOutcome}
-use Rattle.trace.specs.Slices.{Slices, slices}
-use Rattle.form.specs.Decided.{MAX-TEXT-EVENTS, Translated, DecidedBy}
+use Rattle.trace.specs.Slices.{Slices, slices, Translated}
+use Rattle.form.specs.Decided.{MAX-TEXT-EVENTS, DecidedBy}
 use Rattle.form.specs.Translation.{translated}
 
 -- The code that is returned, and the values.
@@ -72,19 +72,24 @@ orderingCall o = record { said = orderingTold (o .answer); workspace = o .worksp
 abbrev pub orderingSeen : ℕ → List ℕ → List ℕ → OrderingCall
 orderingSeen code values workspace = record { said = record { code = code; values = values }; workspace = workspace }
 
--- ---- text to a trace
+-- ---- a text or a plan to a trace
 
--- The translation: 0 with the number of events; 2 refused, with the number and the position.
+-- A translation: 0 with the number of events; 2 refused, with the number and the position.
 unfoldable pub translationTold : Reply ℕ → Told
 translationTold (says count) = told 0 count 0
 translationTold (refused number position) = told 2 number position
 
--- A call of the translation from C: what is told, and what the three slices then hold.
+-- What a caller hears: the answer that a code and the values of a translation tell, with the three slices.
+unfoldable pub heardTrace : ℕ → List ℕ → Slices → Translated
+heardTrace zero values b = record { answer = says (getD values 0 0); slices = b }
+heardTrace (suc code) values b = record { answer = refused (getD values 0 0) (getD values 1 0); slices = b }
+
+-- A call of a translation from C: what is told, and what the three slices then hold.
 pub record TranslateCall : Type 0 where
   pub said : Told
   pub slices : Slices
 
--- The one that an outcome of the translation asks for.
+-- The one that its outcome asks for.
 unfoldable pub translationCall : Translated → TranslateCall
 translationCall o = record { said = translationTold (o .answer); slices = o .slices }
 

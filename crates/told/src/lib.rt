@@ -1,16 +1,19 @@
-// What a C caller is told: the judge of a whole trace, the ordering call and the translation of a text return a code and store two values, the judge a third
-// one, and `specs/Codes.antt` says which. `capi` has them under their names in C.
+// What a C caller is told: the judge of a whole trace, the ordering call and the translations of a text and of a plan return a code and store two values, the
+// judge a third one, and `specs/Codes.antt` says which. `capi` has them under their names in C.
 mod translation;
 
 ghost use mathlib.Core.Path.{_≡_};
 ghost use Rattle.trace.specs.Outcome.{judgeOutcome, orderingOutcome};
 ghost use Rattle.trace.specs.Slices.{slices};
 ghost use Rattle.trace.specs.Demands.{JudgeDemand1, JudgeDemand2, JudgeDemand3, JudgeLinks};
-ghost use Rattle.told.specs.Codes.{heard, heardLinks, judgeCall, judgeSeen, orderingCall, orderingSeen, translateCall, translateSeen, TranslateTells};
-use text::Translation;
+ghost use Rattle.plan.specs.Decided.{DecidedBy, TracesPlan};
+ghost use Rattle.plan.specs.Tracing.{planned};
+ghost use Rattle.told.specs.Codes.{heard, heardLinks, judgeCall, judgeSeen, orderingCall, orderingSeen};
+ghost use Rattle.told.specs.Codes.{heardTrace, translationCall, translateCall, translateSeen, TranslateTells};
 use text::limits::MAX_TEXT_EVENTS;
 use trace::Answer;
 use trace::Ordering;
+use trace::Translation;
 
 // What the judge returns.
 pub const CLEAN: u64 = 0;
@@ -22,12 +25,12 @@ const NO: u64 = 0;
 
 const YES: u64 = 1;
 
-// What the translation returns where the text makes a trace, and where a slice has too few cells for every text.
+// What a translation returns where a trace is written; and that of a text, where a slice has too few cells for every text.
 const TRANSLATED: u64 = 0;
 
 const SHORT: u64 = 3;
 
-// What all return where the trace, or the text, is turned back.
+// What all return where the trace, the text or the plan is turned back.
 pub const REFUSED: u64 = 2;
 
 // The judge of a whole trace.
@@ -137,6 +140,34 @@ pub fn translate(
                 operands,
                 count,
             );
+            *values = [count as u64, 0];
+            TRANSLATED
+        }
+        Translation::Refused(refusal) => {
+            *values = [refusal.number as u64, refusal.position as u64];
+            REFUSED
+        }
+    }
+}
+
+// A plan to a trace.
+pub fn plan(
+    text: &[u8],
+    kinds: &mut [u8],
+    tasks: &mut [u16],
+    operands: &mut [u16],
+    values: &mut [u64; 2],
+) -> u64
+    ensures outcome { λ r. ⌜ translateSeen r (now (values .exit)) (slices (now (kinds .exit)) (now (tasks .exit)) (now (operands .exit)))
+        ≡ translationCall (planned (now (text .entry)) (slices (now (kinds .entry)) (now (tasks .entry)) (now (operands .entry)))) ⌝ }
+    ensures grammar { λ r. ⌜ DecidedBy (now (text .entry)) (slices (now (kinds .entry)) (now (tasks .entry)) (now (operands .entry)))
+        (heardTrace r (now (values .exit)) (slices (now (kinds .exit)) (now (tasks .exit)) (now (operands .exit)))) ⌝ }
+    ensures trace { λ r. ⌜ TracesPlan (now (text .entry))
+        (heardTrace r (now (values .exit)) (slices (now (kinds .exit)) (now (tasks .exit)) (now (operands .exit)))) ⌝ }
+{
+    let translation = plan_reader::translate(text, kinds, tasks, operands);
+    match translation {
+        Translation::Events(count) => {
             *values = [count as u64, 0];
             TRANSLATED
         }

@@ -4,8 +4,7 @@ ghost use mathlib.Core.Path.{_≡_};
 ghost use Prim.Native.Nat.{_≤_};
 ghost use mathlib.Core.Bool.{_||_};
 ghost use lib.Dec.{ltb};
-ghost use Rattle.trace.specs.Slices.{slices};
-ghost use Rattle.trace.proofs.Slices.{Room};
+ghost use Rattle.trace.specs.Slices.{slices, Room};
 ghost use Rattle.form.specs.Decided.{MAX-TEXT-EVENTS};
 ghost use Rattle.told.specs.Codes.{copied};
 

@@ -7,7 +7,7 @@ use mathlib.Core.List.{List, [], _∷_, _++_, map}
 use lib.ListN.{length, drop, set, length-map}
 use lib.Seq.{sets, sets-eq}
 use Rattle.trace.specs.Trace.{Event}
-use Rattle.trace.specs.Slices.{Slices, store, storeAll}
+use Rattle.trace.specs.Slices.{Slices, store, storeAll, Room}
 
 pub storeAll-append : (b : Slices) (p : ℕ) (es fs : List Event) → storeAll b p (es ++ fs) ≡ storeAll (storeAll b p es) (p + length es) fs
 storeAll-append b p [] fs = let e : p + 0 ≡ p = omega arith in rw e
@@ -26,12 +26,6 @@ module _ (slice : Slices → List ℕ) (part : Event → ℕ)
       let k = length-map es part in
       let e : 0 + length (map part es) ≡ length es = omega arith in
       slice-sets b 0 es ∙ (sets-eq (map part es) (slice b) 0 (omega arith) ∙ rw e)
-
--- Each slice has n cells at least.
-pub record Room (b : Slices) (n : ℕ) : Type 0 where
-  pub kinds : n ≤ length (b .kinds)
-  pub tasks : n ≤ length (b .tasks)
-  pub operands : n ≤ length (b .operands)
 
 -- These events stand in the slices from their start on, and the cells past them are as they were in b.
 pub record After (b : Slices) (es : List Event) (after : Slices) : Type 0 where

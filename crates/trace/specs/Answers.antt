@@ -4,7 +4,10 @@ use mathlib.Core.Bool.{Bool, true, false}
 use Rattle.trace.specs.declared.Answer.{Answer}
 use Rattle.trace.specs.declared.Answer.the-variants.{Clean, Race, Refused}
 use Rattle.trace.specs.declared.Ordering.{Ordering}
+use Rattle.trace.specs.declared.Translation.{Translation}
+use Rattle.trace.specs.declared.Translation.the-variants as translation
 use Rattle.trace.specs.Outcome.{Reply, says, refused, Verdict, clean, race}
+use Rattle.trace.specs.Slices.{Slices, Translated}
 
 -- The judge: clean, race s t, or refused number position.
 unfoldable pub judgeReply : Answer → Reply Verdict
@@ -23,3 +26,12 @@ unfoldable pub orderingReply : Ordering → Reply Bool
 orderingReply Ordering.Yes = says true
 orderingReply Ordering.No = says false
 orderingReply (Ordering.Refused r) = refused (r .number) (r .position)
+
+-- A call that writes a trace: the number of events, or refused number position.
+unfoldable pub translationReply : Translation → Reply ℕ
+translationReply (translation.Events count) = says count
+translationReply (translation.Refused r) = refused (r .number) (r .position)
+
+-- Its answer with the slices that it leaves.
+abbrev pub translatedOf : Translation → Slices → Translated
+translatedOf r b = record { answer = translationReply r; slices = b }

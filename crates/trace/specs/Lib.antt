@@ -9,8 +9,8 @@ pub mod Search
 pub mod Joins
 pub mod Outcome
 pub mod Demands
+pub mod Slices
 pub mod Answers
 pub mod Runs
 pub mod Refusals
-pub mod Slices
 pub mod Kinds

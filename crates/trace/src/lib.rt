@@ -75,6 +75,12 @@ pub enum Answer {
     Refused(Refusal),
 }
 
+// What a call that writes a trace to three lent slices answers: the number of its events, or why nothing was written.
+pub enum Translation {
+    Events(usize),
+    Refused(Refusal),
+}
+
 // What the ordering call answers.
 pub enum Ordering {
     Yes,

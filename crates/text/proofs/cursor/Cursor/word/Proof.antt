@@ -1,10 +1,10 @@
--- `text::cursor::Cursor::word` meets its contract: the loop matches the word byte by byte (`Scans`). Assumes nothing.
+-- `text::cursor::Cursor::word` meets its contract: the loop matches the word byte by byte (`Words`). Assumes nothing.
 use Prim.Native.Nat.{_-_}
 use mathlib.Core.Path.{refl}
 use lib.ListN.{length}
 use borrow.Author.Needs.{needs}
 use native.Mathlib.Omega.{arith}
-use Rattle.text.proofs.Scans.{Matching, matching-ends, matching-differs, matching-more, matching-whole}
+use Rattle.text.proofs.Words.{Matching, matching-ends, matching-differs, matching-more, matching-whole}
 use Rattle.text.proofs.cursor.Cursor.word.Statement.{statement}
 use Rattle.text.proofs.cursor.Cursor.word.Tie as tie
 

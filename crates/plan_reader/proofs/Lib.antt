@@ -1,0 +1,5 @@
+-- The laws behind the two passes.
+pub mod Rows
+pub mod Operands
+pub mod Emitting
+pub mod Planning
