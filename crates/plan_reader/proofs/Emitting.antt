@@ -3,7 +3,7 @@
 use Prim.Native.Nat.{ℕ, suc, _+_, _-_, _≤_, _<_}
 use native.Mathlib.Omega.{arith}
 use mathlib.Core.Path.{_≡_, refl, sym, ap, _∙_}
-use mathlib.Core.List.{List, [], _∷_, _++_}
+use mathlib.Core.List.{List, [], _∷_, _++_, append-nil}
 use lib.ListN.{length, drop, length-append, length-set}
 use Rattle.trace.specs.Trace.{Event, FORK, JOIN, HALT, TASKS}
 use Rattle.trace.specs.Slices.{Slices, store, storeAll, Room}
@@ -12,14 +12,16 @@ use Rattle.trace.proofs.Slices.{storeAll-append}
 use Rattle.plan.specs.Plans.{Plan, leaf, pair}
 use Rattle.plan.specs.Events.{kindOf, event, haltOperand, forks, eventsFrom}
 use Rattle.plan.specs.Leaves.{events}
-use Rattle.plan.specs.Reading.{inside, opening, read, planAt}
+use Rattle.plan.specs.Reading.{inside, opening, Reading, read, planAt}
 use Rattle.plan_reader.specs.Answers.{openedOf, Ready, Written, writtenOf, written}
+use Rattle.plan_reader.specs.Steps.{chosen, runner, next-of, forking, halting, joining, Adds, Forks, added}
 use Rattle.plan.specs.declared.Access.{Access}
 use Rattle.plan.specs.declared.Operator.{Operator}
 use Rattle.plan.specs.declared.Operator.the-variants.{Series, Parallel}
 use Rattle.plan_reader.specs.declared.reading.Opening.{Opening}
 use Rattle.plan_reader.specs.declared.reading.Opening.the-variants as code
 use Rattle.plan_reader.specs.declared.emission.Progress.{Progress}
+use Rattle.plan_reader.specs.declared.emission.Node.{Node}
 use Rattle.plan.proofs.Stops.{plan-stops, plan-lone, plan-inside}
 use Rattle.plan_reader.proofs.Operands.{never, opened-inside, Operands, operands-of}
 use Rattle.plan.proofs.EventOrder.{events-length}
@@ -53,35 +55,58 @@ room-part s r h =
     let z = r .operands in
     record { kinds = omega arith; tasks = omega arith; operands = omega arith }
 
--- ---- what a call of `emit` leaves
+-- ---- events stored after others
 
 abbrev progress : ℕ → ℕ → ℕ → Progress
 progress at next count = record { at = at; next = next; count = count }
 
--- Where it was to write this plan.
-record Wrote (text : List ℕ) (room : ℕ) (from : Progress) (actor : ℕ) (b₀ : Slices) (p : Plan) (end : ℕ) (r : Progress) (b : Slices) : Type 0 where
-  at-is : r .at ≡ end
-  next-is : r .next ≡ from .next + forks p
-  count-is : r .count ≡ from .count + events p
-  slices-are : b ≡ storeAll b₀ (from .count) (eventsFrom p actor (from .next))
+-- From b₀, which holds `count` events, these came to be stored.
+record Stepped (at next count : ℕ) (es : List Event) (b₀ : Slices) (r : Progress) (b : Slices) : Type 0 where
+  at-is : r .at ≡ at
+  next-is : r .next ≡ next
+  count-is : r .count ≡ count + length es
+  slices-are : b ≡ storeAll b₀ count es
 
-wrote : (text : List ℕ) (room : ℕ) (from : Progress) (actor : ℕ) (b₀ : Slices) (p : Plan) (end : ℕ) (rest : List ℕ) (r : Progress) (b : Slices)
-    → planAt room (from .at) (drop (from .at) text) ≡ read p end rest
-    → writtenOf r b ≡ written (planAt room (from .at) (drop (from .at) text)) from actor b₀
-    → Wrote text room from actor b₀ p end r b
-wrote text room from actor b₀ p end rest r b e h =
+-- By what an operator adds,
+stepped : {at next count : ℕ} {es : List Event} {b₀ : Slices} {r : Progress} {b : Slices} → writtenOf r b ≡ added at next count es b₀ → Stepped at next count es b₀ r b
+stepped e =
+    record {
+      at-is = ap (λ (z : Written). z .at) e;
+      next-is = ap (λ (z : Written). z .next) e;
+      count-is = ap (λ (z : Written). z .count) e;
+      slices-are = ap (λ (z : Written). z .slices) e;
+    }
+
+-- by a call of `emit` where a plan was read,
+wrote : (x : Reading) (from : Progress) (actor : ℕ) (b₀ : Slices) (p : Plan) (end : ℕ) (rest : List ℕ) {r : Progress} {b : Slices} → x ≡ read p end rest
+    → writtenOf r b ≡ written x from actor b₀ → Stepped end (from .next + forks p) (from .count) (eventsFrom p actor (from .next)) b₀ r b
+wrote x from actor b₀ p end rest e h =
+    let l = events-length p actor (from .next) in
     let k = rw e at h in
+    let c = ap (λ (z : Written). z .count) k in
     record {
       at-is = ap (λ (z : Written). z .at) k;
       next-is = ap (λ (z : Written). z .next) k;
-      count-is = ap (λ (z : Written). z .count) k;
+      count-is = omega arith;
       slices-are = ap (λ (z : Written). z .slices) k;
     }
 
--- Events after others: both are stored as one list.
-then : (b₀ : Slices) (at : ℕ) (es fs : List Event) {b₁ b₂ : Slices} {after : ℕ} → b₁ ≡ storeAll b₀ at es → after ≡ at + length es → b₂ ≡ storeAll b₁ after fs
-    → b₂ ≡ storeAll b₀ at (es ++ fs)
-then b₀ at es fs e f g = g ∙ ((rw (e, f)) ∙ sym (storeAll-append b₀ at es fs))
+-- and by one after the other.
+then : {at at₁ next next₁ count : ℕ} {es fs : List Event} {b₀ b₁ b₂ : Slices} {r r₁ : Progress}
+    → Stepped at next count es b₀ r b₁ → Stepped at₁ next₁ (r .count) fs b₁ r₁ b₂ → Stepped at₁ next₁ count (es ++ fs) b₀ r₁ b₂
+then {count = count} {es = es} {fs = fs} {b₀ = b₀} s t =
+    let c = s .count-is in
+    let d = t .count-is in
+    let l = length-append es fs in
+    record {
+      at-is = t .at-is;
+      next-is = t .next-is;
+      count-is = omega arith;
+      slices-are = t .slices-are ∙ ((rw (s .slices-are, s .count-is)) ∙ sym (storeAll-append b₀ count es fs));
+    }
+
+stepped-same : {at next count : ℕ} {es : List Event} {b₀ : Slices} {r : Progress} {b : Slices} → Stepped at next count es b₀ r b → SameLengths b₀ b
+stepped-same {count = count} {es = es} {b₀ = b₀} s = rw (s .slices-are) (storeAll-same b₀ count es)
 
 module _ (text : List ℕ) (from : Progress) (room actor : ℕ) (b₀ : Slices) (ready : Ready (planAt room (from .at) (drop (from .at) text)) from b₀) where
   -- All that was to be written.
@@ -124,6 +149,32 @@ module _ (text : List ℕ) (from : Progress) (room actor : ℕ) (b₀ : Slices) 
 
 -- ---- an operator
 
+abbrev node : Operator → ℕ → ℕ → Node
+node o actor child = record { operator = o; actor = actor; child = child }
+
+-- Its events are those that it adds and those of its operands.
+node-events : (o : Operator) (x child : ℕ) (a b : Plan) → eventsFrom (pair o a b) x child
+    ≡ forking (node o x child)
+    ++ (eventsFrom a (runner (node o x child)) (next-of (node o x child))
+    ++ (halting (node o x child)
+    ++ (eventsFrom b x (next-of (node o x child) + forks a)
+    ++ joining (node o x child))))
+node-events Series x child a b =
+    let z : child + 0 ≡ child = omega arith in rw (z, append-nil (eventsFrom b x (child + forks a)))
+node-events Parallel x child a b = refl
+
+node-count : (o : Operator) (a b : Plan) → events (pair o a b) ≡ chosen o 0 1 + (events a + (chosen o 0 1 + (events b + chosen o 0 1)))
+node-count Series a b = omega arith
+node-count Parallel a b = omega arith
+
+node-forks : (o : Operator) (a b : Plan) → forks (pair o a b) ≡ chosen o 0 1 + (forks a + forks b)
+node-forks Series a b = omega arith
+node-forks Parallel a b = omega arith
+
+adds-length : (o : Operator) (e : Event) → length (chosen o [] (e ∷ [])) ≡ chosen o 0 1
+adds-length Series e = refl
+adds-length Parallel e = refl
+
 -- All that is known where `emit` has met one.
 pub record Met : Type 0 where
   pub text : List ℕ
@@ -137,7 +188,36 @@ pub record Met : Type 0 where
   pub operator : Operator
   pub is : opening-is ≡ code.Inside operator
 
+-- What a call gave: how far the writing has come, and what the slices hold.
+pub record Step (asked : Written) : Type 0 where
+  pub progress : Progress
+  pub slices : Slices
+  pub gives : writtenOf progress slices ≡ asked
+
 module _ (m : Met) where
+  abbrev n : Node
+  n = node (m .operator) (m .actor) (m .from .next)
+
+  -- A call of `emit`.
+  abbrev Emitted : Progress → ℕ → Slices → Type 0
+  Emitted from actor b = Step (written (planAt (m .room - 1) (from .at) (drop (from .at) (m .text))) from actor b)
+
+  -- The five steps, one after the other.
+  abbrev pub Forked : Type 0
+  Forked = Step (added (m .from .at + 2) (next-of n) (m .from .count) (forking n) (m .slices))
+
+  abbrev pub Left : Forked → Type 0
+  Left f = Emitted (f .progress) (runner n) (f .slices)
+
+  abbrev pub Halted : (f : Forked) → Left f → Type 0
+  Halted f l = Step (added (l .progress .at + 1) (l .progress .next) (l .progress .count) (halting n) (l .slices))
+
+  abbrev pub Right : (f : Forked) (l : Left f) → Halted f l → Type 0
+  Right f l h = Emitted (h .progress) (m .actor) (h .slices)
+
+  abbrev pub Joined : (f : Forked) (l : Left f) (h : Halted f l) → Right f l h → Type 0
+  Joined f l h r = Step (added (r .progress .at + 1) (r .progress .next) (r .progress .count) (joining n) (r .slices))
+
   abbrev text : List ℕ
   text = m .text
 
@@ -146,9 +226,6 @@ module _ (m : Met) where
 
   abbrev room : ℕ
   room = m .room
-
-  abbrev actor : ℕ
-  actor = m .actor
 
   abbrev b₀ : Slices
   b₀ = m .slices
@@ -159,11 +236,6 @@ module _ (m : Met) where
   abbrev o : Operator
   o = m .operator
 
-  abbrev finished : {p : Plan} {end next count : ℕ} {b : Slices} → ready .plan ≡ p → end ≡ ready .end → next ≡ from .next + forks p
-      → count ≡ from .count + events p → b ≡ storeAll b₀ (from .count) (eventsFrom p actor (from .next))
-      → writtenOf (progress end next count) b ≡ written (planAt room (from .at) (drop (from .at) text)) from actor b₀
-  finished = done text from room actor b₀ ready
-
   -- There is room for it, and its bracket is a byte of the text.
   pub some-room : 0 < room
   some-room = opened-inside text (from .at) room (m .opening-is) (m .opened) o (m .is) .0
@@ -172,239 +244,143 @@ module _ (m : Met) where
   bracket-within = opened-inside text (from .at) room (m .opening-is) (m .opened) o (m .is) .1
 
   opens-inside : inside o (drop (from .at + 2) text) ≡ opening room (from .at) (drop (from .at) text)
-  opens-inside = let e = m .is in let f = m .opened in cc
+  opens-inside = let e = m .is in let g = m .opened in cc
 
   parts : Operands text room (from .at) o (ready .plan) (ready .end)
   parts =
       operands-of text room (from .at) o (ready .plan) (ready .end) (ready .rest)
       (sym (plan-inside room (from .at) (drop (from .at) text) o (drop (from .at + 2) text) opens-inside) ∙ ready .is)
 
-  -- ---- S
+  -- How many events and forks it has in all.
+  all-events : events (ready .plan) ≡ chosen o 0 1 + (events (parts .a) + (chosen o 0 1 + (events (parts .b) + chosen o 0 1)))
+  all-events = ap events (parts .plan-is) ∙ node-count o (parts .a) (parts .b)
 
-  module _ (series : o ≡ Series) where
-    series-plan : ready .plan ≡ pair Series (parts .a) (parts .b)
-    series-plan = rw (← series) (parts .plan-is)
+  all-forks : forks (ready .plan) ≡ chosen o 0 1 + (forks (parts .a) + forks (parts .b))
+  all-forks = ap forks (parts .plan-is) ∙ node-forks o (parts .a) (parts .b)
 
-    series-events : events (ready .plan) ≡ events (parts .a) + events (parts .b)
-    series-events = ap events series-plan
+  pub fork-room : Forks n (from .count) b₀
+  fork-room =
+      let e = all-events in
+      let g = all-forks in
+      let q = ready .numbers in
+      record { room = room-part (record { kinds = refl; tasks = refl; operands = refl }) (ready .room) (omega arith); number = omega arith }
 
-    series-forks : forks (ready .plan) ≡ forks (parts .a) + forks (parts .b)
-    series-forks = ap forks series-plan
+  module _ (f : Forked) where
+    s₁ : Stepped (from .at + 2) (next-of n) (from .count) (forking n) b₀ (f .progress) (f .slices)
+    s₁ = stepped (f .gives)
 
-    abbrev fromLeft : Progress
-    fromLeft = progress (from .at + 2) (from .next) (from .count)
+    left-read : planAt (room - 1) (f .progress .at) (drop (f .progress .at) text) ≡ read (parts .a) (parts .comma) (drop (parts .comma) text)
+    left-read = rw (s₁ .at-is) (parts .one)
 
-    pub series-left : Ready (planAt (room - 1) (from .at + 2) (drop (from .at + 2) text)) fromLeft b₀
-    series-left =
-        let n = series-events in
-        let h = series-forks in
+    pub left-ready : Ready (planAt (room - 1) (f .progress .at) (drop (f .progress .at) text)) (f .progress) (f .slices)
+    left-ready =
+        let e = all-events in
+        let g = all-forks in
         let q = ready .numbers in
+        let k = adds-length o (event FORK (m .actor) (from .next)) in
+        let c = s₁ .count-is in
+        let d = s₁ .next-is in
         record {
           plan = parts .a;
           end = parts .comma;
           rest = drop (parts .comma) text;
-          is = parts .one;
+          is = left-read;
           numbers = omega arith;
-          room = room-part (record { kinds = refl; tasks = refl; operands = refl }) (ready .room) (omega arith);
+          room = room-part (stepped-same s₁) (ready .room) (omega arith);
         }
 
-    module _ (left : Progress) (b₁ : Slices)
-        (one : writtenOf left b₁ ≡ written (planAt (room - 1) (from .at + 2) (drop (from .at + 2) text)) fromLeft actor b₀) where
-      left-wrote : Wrote text (room - 1) fromLeft actor b₀ (parts .a) (parts .comma) left b₁
-      left-wrote = wrote text (room - 1) fromLeft actor b₀ (parts .a) (parts .comma) (drop (parts .comma) text) left b₁ (parts .one) one
+    module _ (l : Left f) where
+      s₂ : Stepped (parts .comma) (f .progress .next + forks (parts .a)) (f .progress .count)
+          (eventsFrom (parts .a) (runner n) (f .progress .next)) (f .slices) (l .progress) (l .slices)
+      s₂ = wrote _ (f .progress) (runner n) (f .slices) (parts .a) (parts .comma) (drop (parts .comma) text) left-read (l .gives)
 
-      pub series-comma : left .at < length text
-      series-comma = let e = left-wrote .at-is in let l = parts .comma-below in omega arith
+      pub comma-within : l .progress .at < length text
+      comma-within = let e = s₂ .at-is in let k = parts .comma-below in omega arith
 
-      right-read : planAt (room - 1) (left .at + 1) (drop (left .at + 1) text) ≡ read (parts .b) (parts .close) (drop (parts .close) text)
-      right-read = rw (left-wrote .at-is) (parts .two)
+      -- How many events there are before the halt.
+      left-count : l .progress .count ≡ from .count + (chosen o 0 1 + events (parts .a))
+      left-count =
+          let k = adds-length o (event FORK (m .actor) (from .next)) in
+          let i = events-length (parts .a) (runner n) (f .progress .next) in
+          let c = s₁ .count-is in
+          let d = s₂ .count-is in
+          omega arith
 
-      abbrev fromRight : Progress
-      fromRight = progress (left .at + 1) (left .next) (left .count)
+      pub halt-room : Adds n (l .progress .count) (l .slices)
+      halt-room = let e = all-events in let c = left-count in room-part (stepped-same (then s₁ s₂)) (ready .room) (omega arith)
 
-      pub series-right : Ready (planAt (room - 1) (left .at + 1) (drop (left .at + 1) text)) fromRight b₁
-      series-right =
-          let n = series-events in
-          let h = series-forks in
-          let q = ready .numbers in
-          let c = left-wrote .count-is in
-          let d = left-wrote .next-is in
-          record {
-            plan = parts .b;
-            end = parts .close;
-            rest = drop (parts .close) text;
-            is = right-read;
-            numbers = omega arith;
-            room = room-part (rw (left-wrote .slices-are) (storeAll-same b₀ (from .count) (eventsFrom (parts .a) actor (from .next)))) (ready .room) (omega arith);
-          }
+      module _ (h : Halted f l) where
+        s₃ : Stepped (l .progress .at + 1) (l .progress .next) (l .progress .count) (halting n) (l .slices) (h .progress) (h .slices)
+        s₃ = stepped (h .gives)
 
-      module _ (right : Progress) (b₂ : Slices)
-          (two : writtenOf right b₂ ≡ written (planAt (room - 1) (left .at + 1) (drop (left .at + 1) text)) fromRight actor b₁) where
-        right-wrote : Wrote text (room - 1) fromRight actor b₁ (parts .b) (parts .close) right b₂
-        right-wrote = wrote text (room - 1) fromRight actor b₁ (parts .b) (parts .close) (drop (parts .close) text) right b₂ right-read two
+        second-next : h .progress .next ≡ next-of n + forks (parts .a)
+        second-next = let c = s₁ .next-is in let d = s₂ .next-is in let e = s₃ .next-is in omega arith
 
-        pub series-close : right .at < length text
-        series-close = let e = right-wrote .at-is in let l = parts .close-below in omega arith
+        second-count : h .progress .count ≡ from .count + (chosen o 0 1 + events (parts .a) + chosen o 0 1)
+        second-count =
+            let k = adds-length o (event HALT (from .next) (haltOperand (m .actor))) in
+            let c = left-count in
+            let d = s₃ .count-is in
+            omega arith
 
-        pub series-same : SameLengths b₀ b₂
-        series-same =
-            same-trans {c = b₁} (rw (left-wrote .slices-are) (storeAll-same b₀ (from .count) (eventsFrom (parts .a) actor (from .next))))
-            (rw (right-wrote .slices-are) (storeAll-same b₁ (left .count) (eventsFrom (parts .b) actor (left .next))))
+        right-read : planAt (room - 1) (h .progress .at) (drop (h .progress .at) text) ≡ read (parts .b) (parts .close) (drop (parts .close) text)
+        right-read = rw (s₃ .at-is, s₂ .at-is) (parts .two)
 
-        pub series-done : writtenOf (progress (right .at + 1) (right .next) (right .count)) b₂
-            ≡ written (planAt room (from .at) (drop (from .at) text)) from actor b₀
-        series-done =
-            let c = left-wrote .count-is in
-            let d = left-wrote .next-is in
-            let f = right-wrote .count-is in
-            let g = right-wrote .next-is in
-            let e = right-wrote .at-is in
-            let z = parts .ends in
-            let l = events-length (parts .a) actor (from .next) in
-            finished series-plan (omega arith) (omega arith) (omega arith)
-            (then b₀ (from .count) (eventsFrom (parts .a) actor (from .next)) (eventsFrom (parts .b) actor (from .next + forks (parts .a))) (left-wrote .slices-are) (omega arith)
-            (rw d at (right-wrote .slices-are)))
+        pub right-ready : Ready (planAt (room - 1) (h .progress .at) (drop (h .progress .at) text)) (h .progress) (h .slices)
+        right-ready =
+            let e = all-events in
+            let g = all-forks in
+            let q = ready .numbers in
+            let c = second-count in
+            let d = second-next in
+            record {
+              plan = parts .b;
+              end = parts .close;
+              rest = drop (parts .close) text;
+              is = right-read;
+              numbers = omega arith;
+              room = room-part (stepped-same (then (then s₁ s₂) s₃)) (ready .room) (omega arith);
+            }
 
-  -- ---- P
+        module _ (r : Right f l h) where
+          s₄ : Stepped (parts .close) (h .progress .next + forks (parts .b)) (h .progress .count)
+              (eventsFrom (parts .b) (m .actor) (h .progress .next)) (h .slices) (r .progress) (r .slices)
+          s₄ = wrote _ (h .progress) (m .actor) (h .slices) (parts .b) (parts .close) (drop (parts .close) text) right-read (r .gives)
 
-  module _ (parallel : o ≡ Parallel) where
-    abbrev child : ℕ
-    child = from .next
+          pub close-within : r .progress .at < length text
+          close-within = let e = s₄ .at-is in let k = parts .close-below in omega arith
 
-    parallel-plan : ready .plan ≡ pair Parallel (parts .a) (parts .b)
-    parallel-plan = rw (← parallel) (parts .plan-is)
+          pub join-room : Adds n (r .progress .count) (r .slices)
+          join-room =
+              let e = all-events in
+              let i = events-length (parts .b) (m .actor) (h .progress .next) in
+              let c = second-count in
+              let d = s₄ .count-is in
+              room-part (stepped-same (then (then (then s₁ s₂) s₃) s₄)) (ready .room) (omega arith)
 
-    parallel-events : events (ready .plan) ≡ 3 + (events (parts .a) + events (parts .b))
-    parallel-events = ap events parallel-plan
+          module _ (j : Joined f l h r) where
+            all-stored : Stepped (r .progress .at + 1) (r .progress .next) (from .count)
+                (forking n
+                ++ (eventsFrom (parts .a) (runner n) (f .progress .next)
+                ++ (halting n
+                ++ (eventsFrom (parts .b) (m .actor) (h .progress .next)
+                ++ joining n)))) b₀ (j .progress) (j .slices)
+            all-stored = then s₁ (then s₂ (then s₃ (then s₄ (stepped (j .gives)))))
 
-    parallel-forks : forks (ready .plan) ≡ 1 + (forks (parts .a) + forks (parts .b))
-    parallel-forks = ap forks parallel-plan
+            pub node-same : SameLengths b₀ (j .slices)
+            node-same = stepped-same all-stored
 
-    pub fork-room : Room b₀ (from .count + 1)
-    fork-room = let n = parallel-events in room-part (record { kinds = refl; tasks = refl; operands = refl }) (ready .room) (omega arith)
-
-    pub child-small : child + 1 ≤ TASKS
-    child-small = let h = parallel-forks in let q = ready .numbers in omega arith
-
-    abbrev fromChild : Progress
-    fromChild = progress (from .at + 2) (child + 1) (from .count + 1)
-
-    module _ (b₁ : Slices) (forked : b₁ ≡ store b₀ (from .count) (event FORK actor child)) where
-      same₁ : SameLengths b₀ b₁
-      same₁ = rw forked (store-same b₀ (from .count) (event FORK actor child))
-
-      pub parallel-left : Ready (planAt (room - 1) (from .at + 2) (drop (from .at + 2) text)) fromChild b₁
-      parallel-left =
-          let n = parallel-events in
-          let h = parallel-forks in
-          let q = ready .numbers in
-          record {
-            plan = parts .a;
-            end = parts .comma;
-            rest = drop (parts .comma) text;
-            is = parts .one;
-            numbers = omega arith;
-            room = room-part same₁ (ready .room) (omega arith);
-          }
-
-      module _ (left : Progress) (b₂ : Slices)
-          (one : writtenOf left b₂ ≡ written (planAt (room - 1) (from .at + 2) (drop (from .at + 2) text)) fromChild child b₁) where
-        child-wrote : Wrote text (room - 1) fromChild child b₁ (parts .a) (parts .comma) left b₂
-        child-wrote = wrote text (room - 1) fromChild child b₁ (parts .a) (parts .comma) (drop (parts .comma) text) left b₂ (parts .one) one
-
-        same₂ : SameLengths b₀ b₂
-        same₂ = same-trans same₁ (rw (child-wrote .slices-are) (storeAll-same b₁ (from .count + 1) (eventsFrom (parts .a) child (child + 1))))
-
-        pub parallel-comma : left .at < length text
-        parallel-comma = let e = child-wrote .at-is in let l = parts .comma-below in omega arith
-
-        -- The events stand in the slices that were lent, so their number is one of the machine.
-        pub halt-count : left .count + 1 ≤ length (b₀ .kinds)
-        halt-count = let n = parallel-events in let c = child-wrote .count-is in let k = ready .room .kinds in omega arith
-
-        pub halt-room : Room b₂ (left .count + 1)
-        halt-room = let n = parallel-events in let c = child-wrote .count-is in room-part same₂ (ready .room) (omega arith)
-
-        on-read : planAt (room - 1) (left .at + 1) (drop (left .at + 1) text) ≡ read (parts .b) (parts .close) (drop (parts .close) text)
-        on-read = rw (child-wrote .at-is) (parts .two)
-
-        abbrev fromHalt : Progress
-        fromHalt = progress (left .at + 1) (left .next) (left .count + 1)
-
-        module _ (operand : ℕ) (operand-is : operand ≡ haltOperand actor) (b₃ : Slices)
-            (halted : b₃ ≡ store b₂ (left .count) (event HALT child operand)) where
-          same₃ : SameLengths b₀ b₃
-          same₃ = same-trans same₂ (rw halted (store-same b₂ (left .count) (event HALT child operand)))
-
-          pub parallel-right : Ready (planAt (room - 1) (left .at + 1) (drop (left .at + 1) text)) fromHalt b₃
-          parallel-right =
-              let n = parallel-events in
-              let h = parallel-forks in
-              let q = ready .numbers in
-              let c = child-wrote .count-is in
-              let d = child-wrote .next-is in
-              record {
-                plan = parts .b;
-                end = parts .close;
-                rest = drop (parts .close) text;
-                is = on-read;
-                numbers = omega arith;
-                room = room-part same₃ (ready .room) (omega arith);
-              }
-
-          module _ (right : Progress) (b₄ : Slices)
-              (two : writtenOf right b₄ ≡ written (planAt (room - 1) (left .at + 1) (drop (left .at + 1) text)) fromHalt actor b₃) where
-            on-wrote : Wrote text (room - 1) fromHalt actor b₃ (parts .b) (parts .close) right b₄
-            on-wrote = wrote text (room - 1) fromHalt actor b₃ (parts .b) (parts .close) (drop (parts .close) text) right b₄ on-read two
-
-            same₄ : SameLengths b₀ b₄
-            same₄ = same-trans same₃ (rw (on-wrote .slices-are) (storeAll-same b₃ (left .count + 1) (eventsFrom (parts .b) actor (left .next))))
-
-            pub parallel-close : right .at < length text
-            parallel-close = let e = on-wrote .at-is in let l = parts .close-below in omega arith
-
-            pub join-count : right .count + 1 ≤ length (b₀ .kinds)
-            join-count =
-                let n = parallel-events in
-                let c = child-wrote .count-is in
-                let d = on-wrote .count-is in
-                let k = ready .room .kinds in
-                omega arith
-
-            pub join-room : Room b₄ (right .count + 1)
-            join-room =
-                let n = parallel-events in
-                let c = child-wrote .count-is in
-                let d = on-wrote .count-is in
-                room-part same₄ (ready .room) (omega arith)
-
-            module _ (b₅ : Slices) (joined : b₅ ≡ store b₄ (right .count) (event JOIN actor child)) where
-              stored : b₅ ≡ storeAll b₀ (from .count) (eventsFrom (pair Parallel (parts .a) (parts .b)) actor child)
-              stored =
-                  let c = child-wrote .count-is in
-                  let d = child-wrote .next-is in
-                  let f = on-wrote .count-is in
-                  let es = eventsFrom (parts .a) child (child + 1) in
-                  let fs = eventsFrom (parts .b) actor (child + 1 + forks (parts .a)) in
-                  let l = events-length (parts .a) child (child + 1) in
-                  let k = events-length (parts .b) actor (child + 1 + forks (parts .a)) in
-                  let i : b₅ ≡ storeAll b₃ (left .count + 1) (fs ++ (event JOIN actor child ∷ []))
-                  = then b₃ (left .count + 1) fs (event JOIN actor child ∷ []) {after = right .count} (rw d at (on-wrote .slices-are)) (omega arith) joined in
-                  let j : b₅ ≡ storeAll b₁ (from .count + 1) (es ++ (event HALT child (haltOperand actor) ∷ (fs ++ (event JOIN actor child ∷ []))))
-                  = then b₁ (from .count + 1) es (event HALT child (haltOperand actor) ∷ (fs ++ (event JOIN actor child ∷ []))) {after = left .count}
-                  (child-wrote .slices-are) (omega arith) (i ∙ rw (halted, operand-is)) in
-                  j ∙ rw forked
-
-              pub parallel-same : SameLengths b₀ b₅
-              parallel-same = same-trans same₄ (rw joined (store-same b₄ (right .count) (event JOIN actor child)))
-
-              pub parallel-done : writtenOf (progress (right .at + 1) (right .next) (right .count + 1)) b₅
-                  ≡ written (planAt room (from .at) (drop (from .at) text)) from actor b₀
-              parallel-done =
-                  let c = child-wrote .count-is in
-                  let d = child-wrote .next-is in
-                  let f = on-wrote .count-is in
-                  let g = on-wrote .next-is in
-                  let e = on-wrote .at-is in
-                  let z = parts .ends in
-                  finished parallel-plan (omega arith) (omega arith) (omega arith) stored
+            pub node-done : writtenOf (j .progress) (j .slices) ≡ written (planAt room (from .at) (drop (from .at) text)) from (m .actor) b₀
+            node-done =
+                let es = node-events o (m .actor) (from .next) (parts .a) (parts .b) in
+                let s = rw (s₁ .next-is, second-next, ← es) at all-stored in
+                let i = events-length (pair o (parts .a) (parts .b)) (m .actor) (from .next) in
+                let g = node-forks o (parts .a) (parts .b) in
+                let c = s₄ .next-is in
+                let d = second-next in
+                let e = s₄ .at-is in
+                let k = s .at-is in
+                let q = s .next-is in
+                let u = s .count-is in
+                let z = parts .ends in
+                done text from room (m .actor) b₀ ready (parts .plan-is) (omega arith) (omega arith) (omega arith) (s .slices-are)

@@ -15,12 +15,20 @@ ghost use Rattle.trace.specs.Slices.{slices};
 ghost use Rattle.plan.specs.Events.{kindOf, haltOperand};
 ghost use Rattle.plan.specs.Reading.{planAt};
 ghost use Rattle.plan_reader.specs.Answers.{Ready, written, writtenOf};
+ghost use Rattle.plan_reader.specs.Steps.{runner, forking, halting, joining, Forks, Adds, added, next-of};
 
 // How far the writing has come: the next byte, the number of the next task, and the number of events.
 pub struct Progress {
     pub at: usize,
     pub next: u16,
     pub count: usize,
+}
+
+// An operator, the task that runs it, and the one that it forks if it is P.
+pub struct Node {
+    pub operator: Operator,
+    pub actor: u16,
+    pub child: u16,
 }
 
 fn kind_of(access: Access) -> u8
@@ -40,7 +48,116 @@ fn halt_operand(resumes: u16) -> u16
     0
 }
 
-// The events of the plan from here on, run by the task `actor`: "P forks a task for G1, goes on with G2, then joins."
+impl Node {
+    // The task that runs the left operand.
+    fn runner(self) -> u16
+        ensures { λ r. ⌜ r ≡ runner self ⌝ }
+    {
+        let operator = self.operator;
+        match operator {
+            Operator::Series => self.actor,
+            Operator::Parallel => self.child,
+        }
+    }
+
+    // Before the left operand, which begins at `at`: "P forks a task for G1".
+    fn fork(
+        self,
+        at: usize,
+        count: usize,
+        kinds: &mut [u8],
+        tasks: &mut [u16],
+        operands: &mut [u16],
+    ) -> Progress
+        requires { ⌜ Forks self count (slices (now kinds) (now tasks) (now operands)) ⌝ }
+        ensures { λ r. ⌜ writtenOf r (slices (now (kinds .exit)) (now (tasks .exit)) (now (operands .exit)))
+            ≡ added at (next-of self) count (forking self) (slices (now (kinds .entry)) (now (tasks .entry)) (now (operands .entry))) ⌝ }
+    {
+        let operator = self.operator;
+        match operator {
+            Operator::Series => Progress {
+                at,
+                next: self.child,
+                count,
+            },
+            Operator::Parallel => {
+                store_event(kinds, tasks, operands, count, FORK, self.actor, self.child);
+                Progress {
+                    at,
+                    next: self.child + 1,
+                    count: count + 1,
+                }
+            }
+        }
+    }
+
+    // Between the operands: the task that P forked halts, and its parent "goes on with G2".
+    fn halt(
+        self,
+        at: usize,
+        left: Progress,
+        kinds: &mut [u8],
+        tasks: &mut [u16],
+        operands: &mut [u16],
+    ) -> Progress
+        requires { ⌜ Adds self (left .count) (slices (now kinds) (now tasks) (now operands)) ⌝ }
+        ensures { λ r. ⌜ writtenOf r (slices (now (kinds .exit)) (now (tasks .exit)) (now (operands .exit)))
+            ≡ added at (left .next) (left .count) (halting self) (slices (now (kinds .entry)) (now (tasks .entry)) (now (operands .entry))) ⌝ }
+    {
+        let operator = self.operator;
+        let count = left.count;
+        match operator {
+            Operator::Series => Progress {
+                at,
+                next: left.next,
+                count,
+            },
+            Operator::Parallel => {
+                let resumes = halt_operand(self.actor);
+                store_event(kinds, tasks, operands, count, HALT, self.child, resumes);
+                Progress {
+                    at,
+                    next: left.next,
+                    count: count + 1,
+                }
+            }
+        }
+    }
+
+    // After the right operand: P "then joins".
+    fn join(
+        self,
+        at: usize,
+        right: Progress,
+        kinds: &mut [u8],
+        tasks: &mut [u16],
+        operands: &mut [u16],
+    ) -> Progress
+        requires { ⌜ Adds self (right .count) (slices (now kinds) (now tasks) (now operands)) ⌝ }
+        ensures { λ r. ⌜ writtenOf r (slices (now (kinds .exit)) (now (tasks .exit)) (now (operands .exit)))
+            ≡ added at (right .next) (right .count) (joining self) (slices (now (kinds .entry)) (now (tasks .entry)) (now (operands .entry))) ⌝ }
+    {
+        let operator = self.operator;
+        let count = right.count;
+        match operator {
+            Operator::Series => Progress {
+                at,
+                next: right.next,
+                count,
+            },
+            Operator::Parallel => {
+                store_event(kinds, tasks, operands, count, JOIN, self.actor, self.child);
+                Progress {
+                    at,
+                    next: right.next,
+                    count: count + 1,
+                }
+            }
+        }
+    }
+}
+
+// The events of the plan from here on, run by the task `actor`.
 pub fn emit(
     text: &[u8],
     from: Progress,
@@ -62,99 +179,25 @@ pub fn emit(
     match opened {
         Opening::Stop(_) => from,
         Opening::Leaf(access, location, end) => {
-            store_event(
-                kinds,
-                tasks,
-                operands,
-                count,
-                kind_of(access),
-                actor,
-                location,
-            );
+            let kind = kind_of(access);
+            store_event(kinds, tasks, operands, count, kind, actor, location);
             Progress {
                 at: end,
                 next: child,
                 count: count + 1,
             }
         }
-        Opening::Inside(operator) => match operator {
-            Operator::Series => {
-                let left = emit(
-                    text,
-                    Progress {
-                        at: at + 2,
-                        next: child,
-                        count,
-                    },
-                    room - 1,
-                    actor,
-                    kinds,
-                    tasks,
-                    operands,
-                );
-                let right = emit(
-                    text,
-                    Progress {
-                        at: left.at + 1,
-                        next: left.next,
-                        count: left.count,
-                    },
-                    room - 1,
-                    actor,
-                    kinds,
-                    tasks,
-                    operands,
-                );
-                Progress {
-                    at: right.at + 1,
-                    next: right.next,
-                    count: right.count,
-                }
-            }
-            Operator::Parallel => {
-                store_event(kinds, tasks, operands, count, FORK, actor, child);
-                let left = emit(
-                    text,
-                    Progress {
-                        at: at + 2,
-                        next: child + 1,
-                        count: count + 1,
-                    },
-                    room - 1,
-                    child,
-                    kinds,
-                    tasks,
-                    operands,
-                );
-                store_event(
-                    kinds,
-                    tasks,
-                    operands,
-                    left.count,
-                    HALT,
-                    child,
-                    halt_operand(actor),
-                );
-                let right = emit(
-                    text,
-                    Progress {
-                        at: left.at + 1,
-                        next: left.next,
-                        count: left.count + 1,
-                    },
-                    room - 1,
-                    actor,
-                    kinds,
-                    tasks,
-                    operands,
-                );
-                store_event(kinds, tasks, operands, right.count, JOIN, actor, child);
-                Progress {
-                    at: right.at + 1,
-                    next: right.next,
-                    count: right.count + 1,
-                }
-            }
-        },
+        Opening::Inside(operator) => {
+            let node = Node {
+                operator,
+                actor,
+                child,
+            };
+            let first = node.fork(at + 2, count, kinds, tasks, operands);
+            let left = emit(text, first, room - 1, node.runner(), kinds, tasks, operands);
+            let second = node.halt(left.at + 1, left, kinds, tasks, operands);
+            let right = emit(text, second, room - 1, actor, kinds, tasks, operands);
+            node.join(right.at + 1, right, kinds, tasks, operands)
+        }
     }
 }

@@ -63,11 +63,43 @@ fn translate_agrees() -> bool {
     told & first & second
 }
 
+// `P(r7,s9)`: 0 fork 1, 1 read 7, 1 halt, 0 sum 9, 0 join 1. Slices of three lengths, whose last cells stay.
+fn plan_agrees() -> bool {
+    let mut kinds = [9u8; 6];
+    let mut tasks = [9u16; 7];
+    let mut operands = [9u16; 5];
+    let mut values = [9u64; 2];
+    let code = capi::racejudge_plan(
+        b"P(r7,s9)",
+        &mut kinds,
+        &mut tasks,
+        &mut operands,
+        &mut values,
+    );
+    let told = (code == 0) & (values[0] == 5) & (values[1] == 0);
+    let fork = (kinds[0] == 2) & (tasks[0] == 0) & (operands[0] == 1);
+    let read = (kinds[1] == 0) & (tasks[1] == 1) & (operands[1] == 7);
+    let rest = (kinds[2] == 4) & (kinds[3] == 5) & (kinds[4] == 3) & (operands[3] == 9);
+    told & fork & read & rest & (kinds[5] == 9) & (tasks[5] == 9)
+}
+
+// `P(r7,` breaks off: 17 at 5.
+fn broken_plan_agrees() -> bool {
+    let mut kinds = [9u8; 6];
+    let mut tasks = [9u16; 6];
+    let mut operands = [9u16; 6];
+    let mut values = [9u64; 2];
+    let code = capi::racejudge_plan(b"P(r7,", &mut kinds, &mut tasks, &mut operands, &mut values);
+    (code == 2) & (values[0] == 17) & (values[1] == 5) & (kinds[0] == 9)
+}
+
 fn main() {
     let one = with(make_outcome(0, true), judge_agrees());
     let two = with(one, ordering_agrees());
+    let three = with(two, translate_agrees());
+    let four = with(three, plan_agrees());
     all_agree(
         b"C functions by the places of their parameters: ",
-        with(two, translate_agrees()),
+        with(four, broken_plan_agrees()),
     );
 }
