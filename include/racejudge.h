@@ -1,10 +1,11 @@
 /* The fork-join race judge: a trace of one run of a fork-join program, judged for data races.
- * Four calls: racejudge_translate (text to a trace), racejudge_judge, racejudge_judge_cards (the same,
- * with a card for each location), racejudge_ordering.
+ * Five calls: racejudge_translate (text to a trace), racejudge_plan (a plan to a trace),
+ * racejudge_judge, racejudge_judge_cards (the same, with a card for each location), racejudge_ordering.
  *
- * VERSION 3. Kind 5 is a sum, which version 2 refused by row 5. A card counts sums too: a caller that
- * lent records of 8 bytes, for version 2, lends records of 10. All else is as it was. Version 2 had
- * brought the third value that both judges store, `links`: for version 1 a caller lent them two cells.
+ * VERSION 4. racejudge_plan is new, and so are its rows 17 to 19. All else is as it was. Version 3 had
+ * brought kind 5, a sum, which version 2 refused by row 5, and cards that count sums: for version 2 a
+ * caller lent records of 8 bytes, and since lends records of 10. Version 2 had brought the third value
+ * that both judges store, `links`: for version 1 a caller lent them two cells.
  *
  * Link libcapi.a, which `rt staticlib capi` writes, for x86-64 Linux. It needs only memset of the C
  * library. Every call takes any contents and any lengths: nothing is required of the numbers in the
@@ -15,7 +16,8 @@
  *
  * No call keeps anything between calls: what it answers and leaves depends on what it is lent alone,
  * and threads may call at the same time, each with buffers of its own. racejudge_translate takes some
- * 25,000 bytes of the stack, the others less than 1,000.
+ * 25,000 bytes of the stack; racejudge_plan, which calls itself for each level of a plan, up to some
+ * 10,000; the others less than 1,000.
  *
  * A TRACE is three slices of one length. Entry p of each makes event p; positions count from 0.
  *   kinds     RACEJUDGE_READ .. RACEJUDGE_SUM
@@ -46,9 +48,10 @@
  * cells are 0 and the rest is unchanged.
  *
  * A REFUSAL has the number of the first condition that holds, and a position: that of the event for
- * 5 to 12, that of the line for 14 and 15, else 0. The checks go 1 to 4, then 16; then for each event
- * 5, 6, 7 and the one for its kind; 13 last. Rows 14 and 15 are the translation's, and are all that it
- * has.
+ * 5 to 12, that of the line for 14 and 15, that of the byte for 17 and 18, else 0. The checks go 1 to
+ * 4, then 16; then for each event 5, 6, 7 and the one for its kind; 13 last. Rows 14 and 15 are the
+ * translation's, and are all that it has. Rows 17 to 19 are all that a plan has: of 17 and 18 the first
+ * that is met, from the first byte on, and 19 once the whole plan is read.
  *    1  the three slices differ in length
  *    2  more than 32,768 events
  *    3  the workspace is too short
@@ -65,6 +68,10 @@
  *   14  a line, counted from 0, is not of the text form
  *   15  with that line, counted from 0, the text makes more than 2,048 events
  *   16  there are fewer than 1,024 cards (the judge with cards only)
+ *   17  a byte, counted from 0, cannot continue a plan; where the plan breaks off, its length
+ *   18  that byte, counted from 0, is an S or P that opens level 65
+ *   19  a slice has fewer cells than the plan has events, or the plan needs more than 1,024 tasks,
+ *       task 0 among them, or more than 32,768 events
  *
  * A TEXT has one event a line, each line ended by a line feed:
  *   Ta|r(Vb)|c      task a reads location b
@@ -75,6 +82,17 @@
  * else is taken: no blank, no carriage return, no empty line. Sums have no lines, and so no text makes
  * one. Nor have halts: where a paused task acts again, the halts of the tasks above it come first.
  * The first 53,274 bytes of a text decide.
+ *
+ * A PLAN is a leaf, or two plans one after the other (series) or side by side (parallel):
+ *   rL, wL, sL   a leaf: reads, writes or adds to location L, decimal, 0 to 1,023, no leading zero
+ *   S(G1,G2)     G1, then G2
+ *   P(G1,G2)     G1 beside G2
+ * Nothing else is taken: no blank, no line feed, not at the end either. Each S or P opens a level, and
+ * at most RACEJUDGE_MAX_DEPTH may be open; a lone leaf has depth 0. Task 0 runs the plan. A leaf makes
+ * one event. P makes a fork, after which the child runs G1 and halts; then the task that forked it runs
+ * G2 and joins it. Tasks are numbered 1, 2, 3 in the order of the forks. The last event of the plan is
+ * the last of the trace: task 0 does not halt. Of two leaves the first reaches the second exactly if
+ * the operator where they meet is S and the first is in its left operand.
  */
 #ifndef RACEJUDGE_H
 #define RACEJUDGE_H
@@ -89,7 +107,7 @@ extern "C" {
 /* Kinds of event. */
 enum { RACEJUDGE_READ, RACEJUDGE_WRITE, RACEJUDGE_FORK, RACEJUDGE_JOIN, RACEJUDGE_HALT, RACEJUDGE_SUM };
 
-#define RACEJUDGE_VERSION 3
+#define RACEJUDGE_VERSION 4
 
 #define RACEJUDGE_MAX_EVENTS 32768
 #define RACEJUDGE_MAX_LINKS 10
@@ -97,6 +115,9 @@ enum { RACEJUDGE_READ, RACEJUDGE_WRITE, RACEJUDGE_FORK, RACEJUDGE_JOIN, RACEJUDG
 
 /* The most events that a text makes: each slice that one is translated to has so many cells at least. */
 #define RACEJUDGE_TEXT_EVENTS 2048
+
+/* The most levels of a plan that may be open. */
+#define RACEJUDGE_MAX_DEPTH 64
 
 /* One card for each location, and the positions on that of a location which no event touches. */
 #define RACEJUDGE_CARDS 1024
@@ -114,10 +135,10 @@ enum { RACEJUDGE_CLEAN = 0, RACEJUDGE_RACE = 1 };
 /* What racejudge_ordering returns. */
 enum { RACEJUDGE_NO = 0, RACEJUDGE_YES = 1 };
 
-/* What racejudge_translate returns. */
+/* What racejudge_translate returns, and of these racejudge_plan the first. */
 enum { RACEJUDGE_TRANSLATED = 0, RACEJUDGE_SHORT = 3 };
 
-/* What all four return for a refusal. */
+/* What all five return for a refusal. */
 enum { RACEJUDGE_REFUSED = 2 };
 
 /* Judges the whole trace. Returns, and stores in values[0] to values[2]:
@@ -173,6 +194,15 @@ uint64_t racejudge_ordering(const uint8_t *kinds, size_t kinds_len, const uint16
 uint64_t racejudge_translate(const uint8_t *text, size_t text_len, uint8_t *kinds, size_t kinds_len,
                              uint16_t *tasks, size_t tasks_len, uint16_t *operands,
                              size_t operands_len, uint64_t values[2]);
+
+/* Reads a plan and writes its trace. Returns, and stores in values[0] and values[1]:
+ *   RACEJUDGE_TRANSLATED   n, 0               the n events stand at the start of the three slices
+ *   RACEJUDGE_REFUSED      number, position   number is 17, 18 or 19
+ * The slices may differ in length: each needs n cells. The cells past the events are unchanged; after a
+ * refusal all cells are. The trace keeps the rules: racejudge_judge answers clean or race. */
+uint64_t racejudge_plan(const uint8_t *text, size_t text_len, uint8_t *kinds, size_t kinds_len,
+                        uint16_t *tasks, size_t tasks_len, uint16_t *operands, size_t operands_len,
+                        uint64_t values[2]);
 
 #ifdef __cplusplus
 }

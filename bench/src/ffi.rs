@@ -1,6 +1,6 @@
-//! The linked judges: the library, by its bindings, and the peers in C. This module alone knows the
-//! form in which an answer comes back: all others compare a `Told` with that of the answer that
-//! they want, or turn it into one.
+//! The linked judges and readers: the library, by its bindings, and the peers in C. This module alone
+//! knows the form in which an answer comes back: all others compare a `Told` with that of the answer
+//! that they want, or turn it into one.
 
 use crate::trace::{Answer, Card, Ordering, Trace, Translation, LOCATIONS, SUM, WORKSPACE};
 pub use racejudge::raw::Told;
@@ -15,6 +15,7 @@ racejudge::foreign!(judge fn twoorders_judge);
 racejudge::foreign!(judge fn unionfind_judge);
 racejudge::foreign!(ordering fn twoorders_ordering);
 racejudge::foreign!(ordering fn unionfind_ordering);
+racejudge::foreign!(translate fn planread_plan);
 #[cfg(before)]
 racejudge::foreign!(judge fn before_judge);
 #[cfg(before)]
@@ -141,6 +142,40 @@ impl Judge {
         let Trace { kinds, tasks, operands } = trace;
         unsafe { raw::ordering_by(self.ordering, kinds, tasks, operands, workspace, p, q) }
     }
+}
+
+/// Reads a text or a plan, and writes kinds, tasks and operands.
+type Read = fn(&[u8], &mut [u8], &mut [u16], &mut [u16]) -> Told<2>;
+
+/// One linked reader.
+pub struct Reader {
+    pub name: &'static str,
+    pub read: Read,
+}
+
+/// The library's.
+pub const TRANSLATION: Reader = Reader { name: "the library, translation", read: raw::translate };
+pub const PLAN: Reader = Reader { name: "the library, plan", read: raw::plan };
+
+pub const PLAN_C: Reader = Reader { name: "reader C", read: plan_by_hand };
+
+fn plan_by_hand(text: &[u8], kinds: &mut [u8], tasks: &mut [u16], operands: &mut [u16]) -> Told<2> {
+    let mut values = [u64::MAX; 2];
+    // Safe, as for a judge.
+    let code = unsafe {
+        planread_plan(
+            text.as_ptr(),
+            text.len(),
+            kinds.as_mut_ptr(),
+            kinds.len(),
+            tasks.as_mut_ptr(),
+            tasks.len(),
+            operands.as_mut_ptr(),
+            operands.len(),
+            &mut values,
+        )
+    };
+    Told { code, values }
 }
 
 /// The library with cards.

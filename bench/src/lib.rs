@@ -2,10 +2,11 @@
 //!
 //! Reading order: `trace` (what goes in and comes out), `line`, `ancestors`, `cards` and `joins` (the
 //! slow judge, written from document 01 and the owner's sentences alone), `sight` (what the answers
-//! are about: what reads see), `text` (the text form), `ffi` (the linked judges), `twoorders.c`,
-//! `unionfind.c`, `fasttrack` and `pass.c` (the peers), `rng`, `builder`, `workloads` and `samples`
-//! (the traces), `extent` (how near a trace comes to the limits), `program` and `words` (input, output
-//! and command lines).
+//! are about: what reads see), `text` (the text form), `plan` and `grammar` (plans, and which texts
+//! are some), `ffi` (the linked judges and readers), `twoorders.c`, `unionfind.c`, `fasttrack`,
+//! `pass.c` and `planread.c` (the peers), `rng`, `builder`, `workloads`, `samples` and `shapes` (the
+//! traces and the plans), `extent` (how near a trace comes to the limits), `program` and `words`
+//! (input, output and command lines).
 
 pub mod ancestors;
 pub mod builder;
@@ -14,11 +15,14 @@ pub mod extent;
 pub mod fasttrack;
 #[cfg(feature = "linked")]
 pub mod ffi;
+pub mod grammar;
 pub mod joins;
 pub mod line;
+pub mod plan;
 pub mod program;
 pub mod rng;
 pub mod samples;
+pub mod shapes;
 pub mod sight;
 pub mod text;
 pub mod trace;

@@ -1,5 +1,5 @@
-/* What the judges in C share: the names of the calls, a trace, the size checks, and how an answer is
- * handed back. */
+/* What the judges in C share: the names of the calls, a trace, the size checks, and how the judge's
+ * answer is handed back. */
 
 #ifndef PEER_H
 #define PEER_H
@@ -8,6 +8,7 @@
 #include <stdint.h>
 #include <string.h>
 
+#include "answer.h"
 #include "hints.h"
 #include "kinds.h"
 
@@ -18,7 +19,7 @@
 __typeof__(racejudge_judge) EXPORTED(NAME, judge);
 __typeof__(racejudge_ordering) EXPORTED(NAME, ordering);
 
-enum { TASKS = 1024, LOCATIONS = 1024, WORKSPACE = RACEJUDGE_WORKSPACE };
+enum { WORKSPACE = RACEJUDGE_WORKSPACE };
 
 /* A location has four cells side by side: one for each kind of access, in their row, which tells what
  * an access of that kind conflicts with; the fourth is spare. */
@@ -52,14 +53,7 @@ static uint64_t size_row(size_t n, size_t tasks_len, size_t operands_len, size_t
     return 0;
 }
 
-static inline uint64_t say(uint64_t *values, uint64_t code, uint64_t a, uint64_t b)
-{
-    values[0] = a;
-    values[1] = b;
-    return code;
-}
-
-/* The same for the judge, which has a third value. */
+/* As `say`, for the judge, which has a third value. */
 static inline uint64_t say_judged(uint64_t *values, uint64_t code, uint64_t a, uint64_t b,
                                   uint64_t links)
 {

@@ -142,13 +142,13 @@ pub enum Ordering {
     Refused(usize, usize),
 }
 
-/// What comes of a text.
+/// What comes of a text or of a plan.
 #[derive(Clone, Copy, Debug, PartialEq, Eq)]
 pub enum Translation {
     /// The number of events.
     Events(usize),
-    /// The number and the line.
+    /// The number and the line, or the byte of a plan.
     Refused(usize, usize),
-    /// A lent slice has too few cells for some texts.
+    /// A lent slice has too few cells for some texts. Never said of a plan.
     Short,
 }

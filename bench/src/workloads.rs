@@ -68,7 +68,7 @@ pub const PAIRS: [Pair; 3] = [
 ];
 
 /// Tasks beside task 0 for a trace of n events: 1,023 for 32,768.
-fn children(n: usize) -> usize {
+pub fn children(n: usize) -> usize {
     n / 32 - 1
 }
 

@@ -39,7 +39,7 @@ pub comma-no-digit : digit 44 ≡ none
 unfolding digit
 comma-no-digit = refl
 
-close-no-digit : digit 41 ≡ none
+pub close-no-digit : digit 41 ≡ none
 unfolding digit
 close-no-digit = refl
 

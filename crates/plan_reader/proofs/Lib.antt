@@ -1,6 +1,6 @@
 -- The laws behind the two passes.
 pub mod Rows
-pub mod Operands
-pub mod Nodes
-pub mod Emitting
+pub mod Writing
+pub mod Stepping
+pub mod Passing
 pub mod Planning

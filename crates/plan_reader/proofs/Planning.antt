@@ -3,9 +3,9 @@ use Prim.Native.Nat.{ℕ, _+_, _≤_, _<_}
 use native.Mathlib.Omega.{arith}
 use mathlib.Core.Path.{_≡_, refl, sym, ap, _∙_}
 use mathlib.Core.Bool.{Bool, true, false}
-use mathlib.Core.List.{List, []}
+use mathlib.Core.List.{List}
 use lib.Dec.{ltb}
-use lib.ListN.{length, drop}
+use lib.ListN.{length}
 use borrow.Author.Tests.{lt-ltb, le-ltb}
 use Rattle.trace.specs.Trace.{TASKS, MAX-EVENTS}
 use Rattle.trace.specs.Outcome.{Reply, says, refused}
@@ -14,21 +14,23 @@ use Rattle.trace.specs.Answers.{translationReply, translatedOf}
 use Rattle.trace.specs.declared.Refusal.{Refusal}
 use Rattle.trace.specs.declared.Translation.{Translation}
 use Rattle.trace.specs.declared.Translation.the-variants as translation
-use Rattle.plan.specs.Plans.{Plan, LEVELS}
+use Rattle.plan.specs.Plans.{Plan, LEVELS, IsPlan}
 use Rattle.plan.specs.Events.{forks, eventsOf}
 use Rattle.plan.specs.Leaves.{events}
 use Rattle.plan.specs.Decided.{DecidedBy, TracesPlan}
-use Rattle.plan.specs.Reading.{read, planAt, Whole, accepted, rejected, whole}
+use Rattle.plan.specs.Reading.{Whole, accepted, rejected, whole}
 use Rattle.plan.specs.Tracing.{tooLarge, replied, planned}
-use Rattle.plan_reader.specs.Answers.{plan, no-plan, measuredWhole, measureOf, Ready, Written, writtenOf, written}
-use Rattle.plan_reader.specs.declared.emission.Progress.{Progress}
+use Rattle.plan_reader.specs.Answers.{plan, no-plan, measuredWhole, measureOf}
+use Rattle.plan_reader.specs.Machine.{Ready, Emitted}
 use Rattle.plan_reader.specs.declared.reading.Measurement.{Measurement}
 use Rattle.plan_reader.specs.declared.reading.Measurement.the-variants as measurement
-use Rattle.plan.proofs.Accepts.{accepts-exactly, own-text}
-use Rattle.plan_reader.proofs.Operands.{never}
+use Rattle.plan.proofs.Accepts.{accepts-exactly}
 use Rattle.plan.proofs.EventOrder.{events-length}
 use Rattle.plan.proofs.Tracing.{traces-plan}
 use Rattle.plan.proofs.Deciding.{fits, planned-decided}
+
+never : {C : Type 0} → _≡_ {A = ℕ} 0 1 → C
+never z = absurd (omega arith)
 
 -- ---- `too_large`
 
@@ -89,10 +91,6 @@ leaves-plan : (w : Whole) (p : Plan) (b b₁ : Slices) (e : ℕ) → w ≡ accep
 unfolding translationReply
 leaves-plan w p b b₁ e is fitting counted stored = rw (is, fitting, counted, stored)
 
--- Where the second pass begins.
-abbrev pub START : Progress
-START = record { at = 0; next = 1; count = 0 }
-
 module _ (text : List ℕ) (b : Slices) (r : Measurement) (measured : measureOf r ≡ measuredWhole (whole text)) where
   pub plan-refused : (q : Refusal) → r ≡ measurement.Refused q → translatedOf (translation.Refused q) b ≡ planned text b
   unfolding planned translationReply
@@ -111,35 +109,16 @@ module _ (text : List ℕ) (b : Slices) (r : Measurement) (measured : measureOf 
     plan-short h = let g = sym test-is ∙ h in rw (the-plan .is, g)
 
     module _ (fitting : t ≡ false) where
-      is-read : (end : ℕ) × (planAt LEVELS 0 text ≡ read (the-plan .plan-is) end [])
-      is-read =
-          let i = accepts-exactly text (the-plan .plan-is) .0 (the-plan .is) in
-          let o = own-text LEVELS (the-plan .plan-is) (record { in-range = i .in-range; low = i .low }) in
-          (o .0, ap (λ (z : List ℕ). planAt LEVELS 0 z) (i .printed) ∙ o .1)
+      plan-text : IsPlan LEVELS text (the-plan .plan-is)
+      plan-text = accepts-exactly text (the-plan .plan-is) .0 (the-plan .is)
 
-      pub plan-ready : Ready (planAt LEVELS 0 (drop 0 text)) START b
+      pub plan-ready : Ready text b
       plan-ready =
-          let p = the-plan .plan-is in
-          let k = fits p b (sym test-is ∙ fitting) in
-          let l = events-length p 0 1 in
-          let n = k .tasks in
-          let x = k .room .kinds in
-          let y = k .room .tasks in
-          let z = k .room .operands in
-          record {
-            plan = p;
-            end = is-read .0;
-            rest = [];
-            is = is-read .1;
-            numbers = omega arith;
-            room = record { kinds = omega arith; tasks = omega arith; operands = omega arith };
-          }
+          let k = fits (the-plan .plan-is) b (sym test-is ∙ fitting) in
+          record { plan = the-plan .plan-is; is-plan = plan-text; tasks = k .tasks; room = k .room }
 
-      pub plan-done : (done : Progress) (b₁ : Slices) → writtenOf done b₁ ≡ written (planAt LEVELS 0 (drop 0 text)) START 0 b
-          → translatedOf (translation.Events e) b₁ ≡ planned text b
+      pub plan-done : (b₁ : Slices) → Emitted text b b₁ → translatedOf (translation.Events e) b₁ ≡ planned text b
       unfolding planned
-      plan-done done b₁ h =
-          let i = rw (is-read .1) at h in
-          let s : b₁ ≡ storeAll b 0 (eventsOf (the-plan .plan-is)) = ap (λ (z : Written). z .slices) i in
+      plan-done b₁ h =
           leaves-plan (whole text) (the-plan .plan-is) b b₁ e (the-plan .is) (sym test-is ∙ fitting)
-          (the-plan .events-are ∙ sym (events-length (the-plan .plan-is) 0 1)) s
+          (the-plan .events-are ∙ sym (events-length (the-plan .plan-is) 0 1)) (h (the-plan .plan-is) plan-text)

@@ -1,14 +1,10 @@
 -- What each answer of the code says. The promises go through these. Assumes nothing.
-use Prim.Native.Nat.{ℕ, _+_, _≤_}
-use mathlib.Core.Path.{_≡_}
+use Prim.Native.Nat.{ℕ, _+_}
 use mathlib.Core.Bool.{Bool, true, false}
 use mathlib.Core.List.{List}
 use mathlib.Core.Option.{Option, none, some}
 use lib.ListN.{drop}
-use Rattle.trace.specs.Trace.{TASKS}
-use Rattle.trace.specs.Slices.{Slices, storeAll, Room}
-use Rattle.plan.specs.Plans.{Plan}
-use Rattle.plan.specs.Events.{forks, eventsFrom}
+use Rattle.plan.specs.Events.{forks}
 use Rattle.plan.specs.Leaves.{events}
 use Rattle.plan.specs.Reading.{Opened, stops, lone, inside, Reading, read, refused, Whole, accepted, rejected}
 use Rattle.plan_reader.specs.declared.reading.Opening.{Opening}
@@ -17,9 +13,6 @@ use Rattle.plan_reader.specs.declared.reading.Scanned.{Scanned}
 use Rattle.plan_reader.specs.declared.reading.Scanned.the-variants as scanned
 use Rattle.plan_reader.specs.declared.reading.Measurement.{Measurement}
 use Rattle.plan_reader.specs.declared.reading.Measurement.the-variants as measurement
-use Rattle.plan_reader.specs.declared.emission.Progress.{Progress}
-
--- ---- the first pass
 
 -- The bytes after the one at `at`, unless that is missing.
 abbrev pub afterByte : List ℕ → ℕ → Bool → Option (List ℕ)
@@ -55,35 +48,3 @@ measuredWhole (rejected number at) = no-plan number at
 abbrev pub measureOf : Measurement → Counted
 measureOf (measurement.Plan events forks) = plan events forks
 measureOf (measurement.Refused r) = no-plan (r .number) (r .position)
-
--- ---- the second pass
-
--- A plan was read whose tasks and events have room.
-pub record Ready (r : Reading) (from : Progress) (b : Slices) : Type 0 where
-  pub plan : Plan
-  pub end : ℕ
-  pub rest : List ℕ
-  pub is : r ≡ read plan end rest
-  pub numbers : from .next + forks plan ≤ TASKS
-  pub room : Room b (from .count + events plan)
-
--- How far the writing has come, and what the slices hold.
-pub record Written : Type 0 where
-  pub at : ℕ
-  pub next : ℕ
-  pub count : ℕ
-  pub slices : Slices
-
-abbrev pub writtenOf : Progress → Slices → Written
-writtenOf r b = record { at = r .at; next = r .next; count = r .count; slices = b }
-
--- A plan that was read, with its events after those that stand there.
-abbrev pub written : Reading → Progress → ℕ → Slices → Written
-written (read p end rest) from actor b =
-    record {
-      at = end;
-      next = from .next + forks p;
-      count = from .count + events p;
-      slices = storeAll b (from .count) (eventsFrom p actor (from .next));
-    }
-written (refused number position) from actor b = writtenOf from b

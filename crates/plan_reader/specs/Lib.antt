@@ -1,3 +1,3 @@
 -- What the two passes of the reader hand on. To be believed is what `plan` says; nothing here.
 pub mod Answers
-pub mod Steps
+pub mod Machine

@@ -1,7 +1,12 @@
-// The second pass: the events of a plan, written to three slices. The text is known to be a plan's, and the slices to have room.
-use crate::reading::Opening;
+// The second pass: the events of a plan, written to three slices. The text is known to be a plan's, and the slices to have room. A loop with a stack of its own takes
+// a third of the time that calls for each operator took, with the slices handed on.
+use crate::reading::LAST_LOCATION;
+use cells::cell;
+use cells::put;
 use cells::store_event;
+use numbers::NumberToken;
 use plan::Access;
+use plan::Letter;
 use plan::Operator;
 use trace::FORK;
 use trace::HALT;
@@ -10,25 +15,24 @@ use trace::READ;
 use trace::SUM;
 use trace::WRITE;
 ghost use mathlib.Core.Path.{_≡_};
-ghost use lib.ListN.{drop};
-ghost use Rattle.trace.specs.Slices.{slices};
+ghost use Prim.Native.Nat.{_+_, _*_, _≤_, _<_};
+ghost use lib.ListN.{drop, length, set};
+ghost use Rattle.trace.specs.Slices.{slices, Room};
+ghost use Rattle.trace.specs.Trace.{TASKS};
 ghost use Rattle.plan.specs.Events.{kindOf, haltOperand};
-ghost use Rattle.plan.specs.Reading.{planAt};
-ghost use Rattle.plan_reader.specs.Answers.{Ready, written, writtenOf};
-ghost use Rattle.plan_reader.specs.Steps.{runner, forking, halting, joining, Forks, Adds, added, next-of};
+ghost use Rattle.plan_reader.specs.Machine.{frame, halting, joining, adds, stepOf, STACK-CELLS, stateOf};
+ghost use Rattle.plan_reader.specs.Machine.{writtenOf, turned, closed, opened, pushed, Stands, Goes, After, AfterLeaf, Ready, Emitted};
 
-// How far the writing has come: the next byte, the number of the next task, and the number of events.
-pub struct Progress {
+// The cells of the operators that are open: for each the task that runs it, and the one that it forked, 0 for S.
+const STACK_CELLS: usize = 128;
+
+// How far the writing has come: the next byte, the number of events, how many operators are open, the number of the next task, and the task that runs.
+pub struct Writer {
     pub at: usize,
-    pub next: u16,
     pub count: usize,
-}
-
-// An operator, the task that runs it, and the one that it forks if it is P.
-pub struct Node {
-    pub operator: Operator,
+    pub depth: usize,
+    pub next: u16,
     pub actor: u16,
-    pub child: u16,
 }
 
 fn kind_of(access: Access) -> u8
@@ -48,156 +52,213 @@ fn halt_operand(resumes: u16) -> u16
     0
 }
 
-impl Node {
-    // The task that runs the left operand.
-    fn runner(self) -> u16
-        ensures { λ r. ⌜ r ≡ runner self ⌝ }
-    {
-        let operator = self.operator;
-        match operator {
-            Operator::Series => self.actor,
-            Operator::Parallel => self.child,
-        }
+// A leaf is one event.
+fn leaf(
+    text: &[u8],
+    from: Writer,
+    access: Access,
+    kinds: &mut [u8],
+    tasks: &mut [u16],
+    operands: &mut [u16],
+) -> Writer
+    requires { ⌜ from .at < length (now text) ⌝ }
+    requires { ⌜ Room (slices (now kinds) (now tasks) (now operands)) (from .count + 1) ⌝ }
+    ensures { λ r. ⌜ AfterLeaf access (now (text .entry)) from r (slices (now (kinds .entry)) (now (tasks .entry)) (now (operands .entry)))
+        (slices (now (kinds .exit)) (now (tasks .exit)) (now (operands .exit))) ⌝ }
+{
+    let at = from.at;
+    let count = from.count;
+    let actor = from.actor;
+    let NumberToken::Value(location, end) = numbers::number_at(text, at + 1, LAST_LOCATION) else {
+        return from;
+    };
+    let kind = kind_of(access);
+    store_event(kinds, tasks, operands, count, kind, actor, location);
+    Writer {
+        at: end,
+        next: from.next,
+        count: count + 1,
+        actor,
+        depth: from.depth,
     }
+}
 
-    // Before the left operand, which begins at `at`: "P forks a task for G1".
-    fn fork(
-        self,
-        at: usize,
-        count: usize,
-        kinds: &mut [u8],
-        tasks: &mut [u16],
-        operands: &mut [u16],
-    ) -> Progress
-        requires { ⌜ Forks self count (slices (now kinds) (now tasks) (now operands)) ⌝ }
-        ensures { λ r. ⌜ writtenOf r (slices (now (kinds .exit)) (now (tasks .exit)) (now (operands .exit)))
-            ≡ added at (next-of self) count (forking self) (slices (now (kinds .entry)) (now (tasks .entry)) (now (operands .entry))) ⌝ }
-    {
-        let operator = self.operator;
-        match operator {
-            Operator::Series => Progress {
+// One operator more is open.
+fn push(stack: &mut [u16], depth: usize, actor: u16, child: u16)
+    requires { ⌜ 2 * depth + 2 ≤ length (now stack) ⌝ }
+    ensures { λ _. ⌜ now (stack .exit) ≡ set (set (now (stack .entry)) (2 * depth + 0) actor) (2 * depth + 1) child ⌝ }
+{
+    let cell = 2 * depth;
+    put(stack, cell, 0, actor);
+    put(stack, cell, 1, child);
+}
+
+// Before the operands of an operator, of which the left one begins at `at`: "P forks a task for G1".
+fn enter(
+    from: Writer,
+    operator: Operator,
+    at: usize,
+    stack: &mut [u16],
+    kinds: &mut [u8],
+    tasks: &mut [u16],
+    operands: &mut [u16],
+) -> Writer
+    requires { ⌜ 2 * from .depth + 2 ≤ length (now stack) ⌝ }
+    requires { ⌜ Room (slices (now kinds) (now tasks) (now operands)) (from .count + adds operator) ⌝ }
+    requires { ⌜ from .next + adds operator ≤ TASKS ⌝ }
+    ensures cells { λ r. ⌜ now (stack .exit) ≡ pushed operator from (now (stack .entry)) ⌝ }
+    ensures events { λ r. ⌜ writtenOf r (slices (now (kinds .exit)) (now (tasks .exit)) (now (operands .exit)))
+        ≡ opened operator from (slices (now (kinds .entry)) (now (tasks .entry)) (now (operands .entry))) at ⌝ }
+{
+    let actor = from.actor;
+    let next = from.next;
+    let count = from.count;
+    let depth = from.depth;
+    match operator {
+        Operator::Series => {
+            push(stack, depth, actor, 0);
+            Writer {
                 at,
-                next: self.child,
+                next,
                 count,
-            },
-            Operator::Parallel => {
-                store_event(kinds, tasks, operands, count, FORK, self.actor, self.child);
-                Progress {
-                    at,
-                    next: self.child + 1,
-                    count: count + 1,
-                }
+                actor,
+                depth: depth + 1,
             }
         }
-    }
-
-    // Between the operands: the task that P forked halts, and its parent "goes on with G2".
-    fn halt(
-        self,
-        at: usize,
-        left: Progress,
-        kinds: &mut [u8],
-        tasks: &mut [u16],
-        operands: &mut [u16],
-    ) -> Progress
-        requires { ⌜ Adds self (left .count) (slices (now kinds) (now tasks) (now operands)) ⌝ }
-        ensures { λ r. ⌜ writtenOf r (slices (now (kinds .exit)) (now (tasks .exit)) (now (operands .exit)))
-            ≡ added at (left .next) (left .count) (halting self) (slices (now (kinds .entry)) (now (tasks .entry)) (now (operands .entry))) ⌝ }
-    {
-        let operator = self.operator;
-        let count = left.count;
-        match operator {
-            Operator::Series => Progress {
+        Operator::Parallel => {
+            push(stack, depth, actor, next);
+            store_event(kinds, tasks, operands, count, FORK, actor, next);
+            Writer {
                 at,
-                next: left.next,
-                count,
-            },
-            Operator::Parallel => {
-                let resumes = halt_operand(self.actor);
-                store_event(kinds, tasks, operands, count, HALT, self.child, resumes);
-                Progress {
-                    at,
-                    next: left.next,
-                    count: count + 1,
-                }
-            }
-        }
-    }
-
-    // After the right operand: P "then joins".
-    fn join(
-        self,
-        at: usize,
-        right: Progress,
-        kinds: &mut [u8],
-        tasks: &mut [u16],
-        operands: &mut [u16],
-    ) -> Progress
-        requires { ⌜ Adds self (right .count) (slices (now kinds) (now tasks) (now operands)) ⌝ }
-        ensures { λ r. ⌜ writtenOf r (slices (now (kinds .exit)) (now (tasks .exit)) (now (operands .exit)))
-            ≡ added at (right .next) (right .count) (joining self) (slices (now (kinds .entry)) (now (tasks .entry)) (now (operands .entry))) ⌝ }
-    {
-        let operator = self.operator;
-        let count = right.count;
-        match operator {
-            Operator::Series => Progress {
-                at,
-                next: right.next,
-                count,
-            },
-            Operator::Parallel => {
-                store_event(kinds, tasks, operands, count, JOIN, self.actor, self.child);
-                Progress {
-                    at,
-                    next: right.next,
-                    count: count + 1,
-                }
+                next: next + 1,
+                count: count + 1,
+                actor: next,
+                depth: depth + 1,
             }
         }
     }
 }
 
-// The events of the plan from here on, run by the task `actor`.
-pub fn emit(
-    text: &[u8],
-    from: Progress,
-    room: usize,
+// Between the operands: the task that P forked halts, and its parent "goes on with G2".
+fn turn(
+    from: Writer,
+    at: usize,
     actor: u16,
+    child: u16,
     kinds: &mut [u8],
     tasks: &mut [u16],
     operands: &mut [u16],
-) -> Progress
-    requires { ⌜ Ready (planAt room (from .at) (drop (from .at) (now text))) from (slices (now kinds) (now tasks) (now operands)) ⌝ }
+) -> Writer
+    requires { ⌜ Room (slices (now kinds) (now tasks) (now operands)) (from .count + length (halting (frame actor child))) ⌝ }
     ensures { λ r. ⌜ writtenOf r (slices (now (kinds .exit)) (now (tasks .exit)) (now (operands .exit)))
-        ≡ written (planAt room (from .at) (drop (from .at) (now (text .entry)))) from actor
-        (slices (now (kinds .entry)) (now (tasks .entry)) (now (operands .entry))) ⌝ }
+        ≡ turned from (slices (now (kinds .entry)) (now (tasks .entry)) (now (operands .entry))) at (frame actor child) ⌝ }
+{
+    let count = from.count;
+    if child == 0 {
+        return Writer {
+            at,
+            next: from.next,
+            count,
+            actor,
+            depth: from.depth,
+        };
+    }
+    let resumes = halt_operand(actor);
+    store_event(kinds, tasks, operands, count, HALT, child, resumes);
+    Writer {
+        at,
+        next: from.next,
+        count: count + 1,
+        actor,
+        depth: from.depth,
+    }
+}
+
+// After the operands: P "then joins".
+fn close(
+    from: Writer,
+    at: usize,
+    actor: u16,
+    child: u16,
+    kinds: &mut [u8],
+    tasks: &mut [u16],
+    operands: &mut [u16],
+) -> Writer
+    requires { ⌜ Room (slices (now kinds) (now tasks) (now operands)) (from .count + length (joining (frame actor child))) ⌝ }
+    requires { ⌜ 0 < from .depth ⌝ }
+    ensures { λ r. ⌜ writtenOf r (slices (now (kinds .exit)) (now (tasks .exit)) (now (operands .exit)))
+        ≡ closed from (slices (now (kinds .entry)) (now (tasks .entry)) (now (operands .entry))) at (frame actor child) ⌝ }
+{
+    let count = from.count;
+    let depth = from.depth - 1;
+    if child == 0 {
+        return Writer {
+            at,
+            next: from.next,
+            count,
+            actor: from.actor,
+            depth,
+        };
+    }
+    store_event(kinds, tasks, operands, count, JOIN, actor, child);
+    Writer {
+        at,
+        next: from.next,
+        count: count + 1,
+        actor: from.actor,
+        depth,
+    }
+}
+
+// One step along the text.
+fn step(
+    text: &[u8],
+    from: Writer,
+    stack: &mut [u16],
+    kinds: &mut [u8],
+    tasks: &mut [u16],
+    operands: &mut [u16],
+) -> Writer
+    requires { ⌜ Stands from (now text) (now stack) ⌝ }
+    requires { ⌜ Goes (stepOf (drop (from .at) (now text)) (stateOf from (now stack))) from (slices (now kinds) (now tasks) (now operands)) ⌝ }
+    ensures cells { λ r. ⌜ length (now (stack .exit)) ≡ STACK-CELLS ⌝ }
+    ensures events { λ r. ⌜ After (stepOf (drop (from .at) (now (text .entry))) (stateOf from (now (stack .entry)))) (now (text .entry)) from r (now (stack .exit))
+        (slices (now (kinds .entry)) (now (tasks .entry)) (now (operands .entry)))
+        (slices (now (kinds .exit)) (now (tasks .exit)) (now (operands .exit))) ⌝ }
 {
     let at = from.at;
-    let child = from.next;
-    let count = from.count;
-    let opened = crate::reading::opening_at(text, at, room);
-    match opened {
-        Opening::Stop(_) => from,
-        Opening::Leaf(access, location, end) => {
-            let kind = kind_of(access);
-            store_event(kinds, tasks, operands, count, kind, actor, location);
-            Progress {
-                at: end,
-                next: child,
-                count: count + 1,
+    let byte = text[at];
+    let letter = plan::letter_of(byte);
+    match letter {
+        Letter::Leaf(access) => leaf(text, from, access, kinds, tasks, operands),
+        Letter::Joint(operator) => enter(from, operator, at + 2, stack, kinds, tasks, operands),
+        Letter::Other => {
+            let top = 2 * (from.depth - 1);
+            let actor = cell(stack, top, 0);
+            let child = cell(stack, top, 1);
+            if byte == b',' {
+                return turn(from, at + 1, actor, child, kinds, tasks, operands);
             }
+            close(from, at + 1, actor, child, kinds, tasks, operands)
         }
-        Opening::Inside(operator) => {
-            let node = Node {
-                operator,
-                actor,
-                child,
-            };
-            let first = node.fork(at + 2, count, kinds, tasks, operands);
-            let left = emit(text, first, room - 1, node.runner(), kinds, tasks, operands);
-            let second = node.halt(left.at + 1, left, kinds, tasks, operands);
-            let right = emit(text, second, room - 1, actor, kinds, tasks, operands);
-            node.join(right.at + 1, right, kinds, tasks, operands)
-        }
+    }
+}
+
+// The events of the plan, which task 0 runs.
+pub fn emit(text: &[u8], kinds: &mut [u8], tasks: &mut [u16], operands: &mut [u16])
+    requires { ⌜ Ready (now text) (slices (now kinds) (now tasks) (now operands)) ⌝ }
+    ensures { λ _. ⌜ Emitted (now (text .entry)) (slices (now (kinds .entry)) (now (tasks .entry)) (now (operands .entry)))
+        (slices (now (kinds .exit)) (now (tasks .exit)) (now (operands .exit))) ⌝ }
+{
+    let mut stack = [0u16; STACK_CELLS];
+    let mut writer = Writer {
+        at: 0,
+        next: 1,
+        count: 0,
+        actor: 0,
+        depth: 0,
+    };
+    while writer.at < text.len() {
+        writer = step(text, writer, &mut stack, kinds, tasks, operands);
     }
 }

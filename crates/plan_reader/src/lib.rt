@@ -2,9 +2,8 @@
 mod emission;
 mod reading;
 
-use crate::emission::Progress;
-use crate::reading::LEVELS;
 use crate::reading::Measurement;
+use trace::MAX_EVENTS;
 use trace::Refusal;
 use trace::TASKS;
 use trace::Translation;
@@ -13,10 +12,6 @@ ghost use Rattle.trace.specs.Slices.{slices};
 ghost use Rattle.trace.specs.Answers.{translatedOf};
 ghost use Rattle.plan.specs.Decided.{DecidedBy, TracesPlan};
 ghost use Rattle.plan.specs.Tracing.{tooLarge, planned};
-ghost use Rattle.plan.specs.Plans.{LEVELS};
-
-// "At most 32,768 events."
-const MAX_EVENTS: usize = 32768;
 
 // Row 19: over 1,024 tasks, over 32,768 events, or a slice too short.
 fn too_large(events: usize, forks: usize, kinds: usize, tasks: usize, operands: usize) -> bool
@@ -60,12 +55,7 @@ pub fn translate(
                     position: 0,
                 });
             }
-            let start = Progress {
-                at: 0,
-                next: 1,
-                count: 0,
-            };
-            emission::emit(text, start, LEVELS, 0, kinds, tasks, operands);
+            emission::emit(text, kinds, tasks, operands);
             Translation::Events(events)
         }
     }

@@ -3,6 +3,7 @@ use numbers::NumberToken;
 use plan::Access;
 use plan::Letter;
 use plan::Operator;
+use trace::LOCATIONS;
 use trace::Refusal;
 ghost use mathlib.Core.Path.{_≡_};
 ghost use lib.ListN.{drop};
@@ -10,10 +11,10 @@ ghost use Rattle.plan.specs.Reading.{past, opening, planAt, whole};
 ghost use Rattle.plan_reader.specs.Answers.{afterByte, openedOf, scannedOf, measured, measureOf, measuredWhole};
 
 // "A plan may nest up to 64 deep".
-pub const LEVELS: usize = 64;
+const LEVELS: usize = 64;
 
 // "a location 0 to 1,023"
-const LAST_LOCATION: u16 = 1023;
+pub const LAST_LOCATION: u16 = LOCATIONS - 1;
 
 // What a plan begins with: a leaf with the place after it, or an operator with the bracket after it.
 pub enum Opening {
@@ -54,7 +55,7 @@ fn lacks(text: &[u8], at: usize, byte: u8) -> bool
     text[at] != byte
 }
 
-pub fn opening_at(text: &[u8], at: usize, room: usize) -> Opening
+fn opening_at(text: &[u8], at: usize, room: usize) -> Opening
     ensures { λ r. ⌜ openedOf (now (text .entry)) at r ≡ opening room at (drop at (now (text .entry))) ⌝ }
 {
     if text.len() <= at {

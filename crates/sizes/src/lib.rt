@@ -1,11 +1,9 @@
 // The size checks, rows 1 to 4: every call over a whole trace begins with `size_row`, or with `buffer_row` where it has order buffers.
+use trace::MAX_EVENTS;
 ghost use mathlib.Core.Path.{_≡_};
 ghost use Rattle.trace.specs.Line.{passes};
 ghost use Rattle.trace.specs.Outcome.{sizes, orderRoom};
 ghost use Rattle.sizes.specs.Rows.{rowOf};
-
-// "At most 32,768 events."
-pub const MAX_EVENTS: usize = 32768;
 
 // "at least 12,288 cells more than the trace has events"
 pub const WORKSPACE_CELLS: usize = 12288;

@@ -61,6 +61,9 @@ pub const LOCATIONS: u16 = 1024;
 // "a task, 0 to 1,023"
 pub const TASKS: u16 = 1024;
 
+// "At most 32,768 events."
+pub const MAX_EVENTS: usize = 32768;
+
 // One row of document 01's table, with the position that belongs to it.
 pub struct Refusal {
     pub number: usize,

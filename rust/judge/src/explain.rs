@@ -2,39 +2,42 @@
 
 mod cards;
 mod collision;
+mod drawing;
+mod excerpt;
 mod form;
 mod misfit;
+mod misread;
 mod order;
 mod page;
+mod plan;
 mod race;
 mod refusal;
 mod rows;
 mod ways;
 
+pub use misread::Misread;
 pub use refusal::{Reason, Refused};
 
 use crate::cards::Cards;
 use crate::phrases::{clean_before, count, has_sums};
 use crate::recording::Recording;
-use crate::study::{Question, Scene, Study};
+use crate::study::{Planned, Question, Scene, Study};
 use page::Page;
 use race::Race;
-use racejudge::{Verdict, MAX_LINKS};
+use racejudge::{Trace, Verdict, MAX_LINKS};
 
 /// The proved answer's line, and what it means. The orders of a race are shown whole where that is
 /// wanted.
 pub fn judged(study: &Study, whole: bool) -> String {
     let mut page = Page::default();
     page.add(&study.line());
-    match (&study.answer, &study.scene) {
-        (Ok(Verdict::Clean { .. }), Some(scene)) => clean(&mut page, scene),
-        (Ok(Verdict::Race { s, t, first, second, .. }), Some(scene)) => {
-            let (orders, why) = ([&first[..], &second[..]], study.why.as_ref());
-            let race = Race { s: *s, t: *t, orders, why, broken: study.broken, whole };
+    match (&study.answer, &study.scene, Race::of(study, None, whole)) {
+        (Ok(_), Some(scene), None) => clean(&mut page, scene),
+        (Ok(_), Some(scene), Some(race)) => {
             race.tell(&mut page, scene);
             counting(&mut page, scene.recording);
         }
-        (Err(refusal), scene) => {
+        (Err(refusal), scene, _) => {
             let refused = Refused::of(study.recording, scene.as_ref(), refusal);
             refused.tell(&mut page, refusal);
             if let Refused::Event(_, p) = refused {
@@ -42,9 +45,40 @@ pub fn judged(study: &Study, whole: bool) -> String {
                 counting(&mut page, study.recording);
             }
         }
-        (Ok(_), None) => {}
+        (Ok(_), None, _) => {}
     }
     page.text()
+}
+
+/// The proved answer's line, and what it means for the plan.
+pub fn planned(planned: &Planned, whole: bool) -> String {
+    let Planned { schedule, study, clash } = planned;
+    let mut page = Page::default();
+    page.add(&study.line());
+    match (&study.scene, Race::of(study, clash.as_ref(), whole), clash) {
+        (Some(scene), Some(race), Some(clash)) => {
+            plan::race(&mut page, scene, &race, clash, &schedule.text);
+        }
+        (Some(scene), ..) => plan::clean(&mut page, scene, schedule),
+        (None, ..) => plan::refused(&mut page, schedule),
+    }
+    page.text()
+}
+
+/// The plan and its task graph, drawn behind what is said of the file.
+pub fn drawn(planned: &Planned) -> String {
+    let Planned { schedule, study, clash } = planned;
+    let mut page = Page::default();
+    match (&schedule.plan, &study.scene) {
+        (Ok(plan), Some(scene)) => drawing::draw(&mut page, scene, plan, clash.as_ref()),
+        _ => page.say("There is no drawing: the file makes no trace."),
+    }
+    behind(page)
+}
+
+/// A page that stands behind another.
+fn behind(page: Page) -> String {
+    format!("\n{}", page.text())
 }
 
 /// How long the chains of the table of joins are: a paragraph behind what is said of a file.
@@ -62,7 +96,7 @@ pub fn links(study: &Study) -> String {
     };
     let mut page = Page::default();
     page.add(&format!("Joins: {told}"));
-    format!("\n{}", page.text())
+    behind(page)
 }
 
 fn clean(page: &mut Page, scene: &Scene) {
@@ -70,13 +104,18 @@ fn clean(page: &mut Page, scene: &Scene) {
         page.say("There is no event in the file, so nothing can race.");
         return;
     }
-    page.say(&format!(
-        "No race: whatever order the cores take that the forks and joins allow, each read sees the \
-         same write{sums}, and each location ends with the same last write{sums}.",
-        sums = if has_sums(scene.trace) { " and the same sums after it" } else { "" },
-    ));
+    page.say(&no_race(scene.trace, "the forks and joins allow"));
     let tasks = count(scene.graph.columns().len(), "task");
     page.say(&format!("Judged: {} by {tasks}.", count(scene.trace.len(), "event")));
+}
+
+/// What clean means.
+fn no_race(trace: &Trace, allowed: &str) -> String {
+    format!(
+        "No race: whatever order the cores take that {allowed}, each read sees the same write{sums}, \
+         and each location ends with the same last write{sums}.",
+        sums = if has_sums(trace) { " and the same sums after it" } else { "" },
+    )
 }
 
 /// How events and lines are numbered.

@@ -2,13 +2,13 @@
 
 use crate::answer::Answer;
 use crate::cards::{Cards, Touched, COUNTS};
-use crate::explain::{Reason, Refused};
+use crate::explain::{Misread, Reason, Refused};
 use crate::json::Json;
 use crate::recording::Recording;
-use crate::study::{Question, Scene, Study};
+use crate::study::{Clash, Planned, Question, Scene, Study};
 use crate::why::Why;
 use crate::words::Picture;
-use racejudge::{Refusal, Verdict};
+use racejudge::{Leaf, Refusal, Verdict};
 use std::ffi::OsStr;
 
 type Fields = Vec<(&'static str, Json)>;
@@ -22,15 +22,44 @@ pub fn unread(file: &OsStr, wrong: &str) -> String {
 /// A file that was judged.
 pub fn judged(file: &OsStr, study: &Study, picture: &Picture) -> String {
     let mut fields = answered(study);
-    match picture {
-        Picture::Unwanted => {}
-        Picture::Drawn(path) => fields.push(("picture", lossy(path.as_encoded_bytes()).into())),
-        Picture::Nothing => fields.push(("picture", Json::Null)),
-        Picture::Failed(wrong) => {
-            fields.extend([("picture", Json::Null), ("error", wrong.as_str().into())]);
-        }
-    }
+    fields.extend(drawn(picture));
     line(file, fields)
+}
+
+/// A plan that was judged.
+pub fn planned(file: &OsStr, planned: &Planned, picture: &Picture) -> String {
+    let Planned { schedule, study, clash } = planned;
+    let mut fields = head(study.line(), study.scene.as_ref());
+    fields.push(("leaves", schedule.plan.as_ref().ok().map(|plan| plan.leaves().count()).into()));
+    fields.push(("links", study.answer.as_ref().map_or(0, Verdict::links).into()));
+    fields.extend(race(&study.answer, study));
+    fields.extend(clash.iter().flat_map(meeting));
+    if let (Err(refusal), Some(misread)) = (&study.answer, Misread::of(schedule)) {
+        fields.extend(rule(refusal));
+        fields.extend(reason(misread.reason()));
+    }
+    fields.extend(drawn(picture));
+    line(file, fields)
+}
+
+/// Where the two leaves of a race stand, and the operator where they meet.
+fn meeting(clash: &Clash) -> Fields {
+    let Clash { s, t, meet } = clash;
+    let place = |what: &'static str, text: String, byte: usize| {
+        Json::Object(vec![(what, text.into()), ("byte", byte.into())])
+    };
+    let leaf = |leaf: &Leaf| place("leaf", leaf.to_string(), leaf.position);
+    let operator = place("operator", meet.operator.to_string(), meet.position);
+    vec![("s_leaf", leaf(s)), ("t_leaf", leaf(t)), ("meet", operator)]
+}
+
+fn drawn(picture: &Picture) -> Fields {
+    match picture {
+        Picture::Unwanted => Vec::new(),
+        Picture::Drawn(path) => vec![("picture", lossy(path.as_encoded_bytes()).into())],
+        Picture::Nothing => vec![("picture", Json::Null)],
+        Picture::Failed(wrong) => vec![("picture", Json::Null), ("error", wrong.as_str().into())],
+    }
 }
 
 /// A file that was judged, with its cards where it is clean.
@@ -161,8 +190,7 @@ fn card(scene: &Scene, touched: &Touched) -> Json {
 
 fn refused(recording: &Recording, scene: Option<&Scene>, refusal: &Refusal) -> Fields {
     let refused = Refused::of(recording, scene, refusal);
-    let Reason { state, hint } = refused.reason(refusal);
-    let unless_empty = |text: &'static str| Some(text).filter(|text| !text.is_empty()).into();
+    let told = reason(refused.reason(refusal));
     let text_line = |text: &[u8], byte: Option<usize>| {
         Json::Object(vec![
             ("line", (refusal.position + 1).into()),
@@ -177,14 +205,19 @@ fn refused(recording: &Recording, scene: Option<&Scene>, refusal: &Refusal) -> F
         Refused::Whole(_) => (Json::Null, Json::Null),
     };
     let mut fields = rule(refusal);
-    fields.extend([
-        ("event", event),
-        ("text_line", text_line),
+    fields.extend([("event", event), ("text_line", text_line)]);
+    fields.extend(told);
+    fields
+}
+
+/// Why something is refused, for people.
+fn reason(Reason { state, hint }: Reason) -> Fields {
+    let unless_empty = |text: &'static str| Some(text).filter(|text| !text.is_empty()).into();
+    vec![
         ("state", state.into()),
         ("cause", unless_empty(hint.cause)),
         ("advice", unless_empty(hint.advice)),
-    ]);
-    fields
+    ]
 }
 
 fn lossy(bytes: &[u8]) -> String {

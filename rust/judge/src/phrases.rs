@@ -1,6 +1,6 @@
 //! Words for events, tasks, numbers and bytes.
 
-use racejudge::{Event, Kind, Place, Trace};
+use racejudge::{Event, Kind, Leaf, Place, Trace};
 use std::ffi::OsStr;
 
 /// What an access does to its location, which follows.
@@ -26,6 +26,11 @@ pub fn deed(event: Event) -> String {
         Some(Kind::Halt) => format!("task {task} halts, with the operand {operand}"),
         _ => format!("task {task} does something of kind {kind} with {operand}"),
     }
+}
+
+/// `the w3 at byte 2`.
+pub fn leaf(leaf: &Leaf) -> String {
+    format!("the {leaf} at byte {}", leaf.position)
 }
 
 /// Whether a task of the trace adds to a location, so that sums are to be spoken of.
@@ -58,14 +63,15 @@ fn list(numbers: &[u16]) -> String {
     numbers.iter().map(u16::to_string).collect::<Vec<_>>().join(", ")
 }
 
-/// `1 event`, `1,234 events`, `2 accesses`.
+/// `1 event`, `1,234 events`, `2 accesses`, `3 leaves`.
 pub fn count(number: usize, one: &str) -> String {
-    let end = match number {
-        1 => "",
-        _ if one.ends_with('s') => "es",
-        _ => "s",
+    let (stem, end) = match (number, one.strip_suffix('f')) {
+        (1, _) => (one, ""),
+        (_, Some(stem)) => (stem, "ves"),
+        _ if one.ends_with('s') => (one, "es"),
+        _ => (one, "s"),
     };
-    format!("{} {one}{end}", grouped(number))
+    format!("{} {stem}{end}", grouped(number))
 }
 
 /// A number as people write it, `32,768`.
@@ -96,6 +102,24 @@ pub fn visible(line: &[u8]) -> String {
         _ => format!("\\x{byte:02x}"),
     };
     line.iter().map(letter).collect()
+}
+
+/// So many of the first bytes fit in a width, as they may go to a terminal.
+pub fn fitting(line: &[u8], width: usize) -> usize {
+    let fits = |end: &usize| visible(&line[..*end]).len() <= width;
+    (0..=line.len().min(width)).rev().find(fits).unwrap_or(0)
+}
+
+/// What stands where a reader of a text may not see it, as a clause.
+pub fn unseen(byte: u8) -> Option<String> {
+    Some(match byte {
+        b'\n' => "a line feed stands here".to_string(),
+        b'\r' => "a carriage return stands here".to_string(),
+        b' ' => "a blank stands here".to_string(),
+        b'\t' => "a tab stands here".to_string(),
+        _ if byte.is_ascii_graphic() => return None,
+        _ => format!("the byte {byte:#04x} stands here"),
+    })
 }
 
 /// A name as it may go to a terminal: what would not be seen as itself is escaped, and so is the
@@ -147,6 +171,7 @@ mod tests {
     fn one_is_no_plural() {
         assert_eq!([0, 1, 2].map(|it| count(it, "event")), ["0 events", "1 event", "2 events"]);
         assert_eq!([1, 1_234].map(|it| count(it, "access")), ["1 access", "1,234 accesses"]);
+        assert_eq!([1, 2].map(|it| count(it, "leaf")), ["1 leaf", "2 leaves"]);
     }
 
     #[test]

@@ -1,13 +1,11 @@
 //! What a file holds: a trace as text or in the binary form.
 
 use crate::phrases::grouped;
-use crate::standard::{self, fault};
+use crate::standard;
 use racejudge::{Refusal, Trace, TEXT_BYTES};
 use std::ffi::OsStr;
+use std::fs::File;
 use std::io::{self, Read};
-
-/// The name that stands for standard input.
-pub const STANDARD_INPUT: &str = "-";
 
 /// A 0 byte among so many at the start tells the binary form: no text has one, and the number of
 /// events that stands there is small.
@@ -29,12 +27,7 @@ pub struct Recording {
 impl Recording {
     /// Reads a file, or says why it cannot be judged.
     pub fn read(file: &OsStr) -> Result<Recording, String> {
-        let bytes = if file == STANDARD_INPUT {
-            standard::input().and_then(|input| start(&*input))
-        } else {
-            standard::open(file).and_then(start)
-        };
-        Recording::of(bytes.map_err(|error| format!("cannot be read: {}", fault(&error)))?)
+        Recording::of(standard::read(file, start)?)
     }
 
     /// The recording of what `start` gives of a file.
@@ -65,7 +58,7 @@ impl Recording {
 }
 
 /// As much of a file as decides: an endless one is not waited for.
-fn start(mut file: impl Read) -> io::Result<Vec<u8>> {
+fn start(mut file: &File) -> io::Result<Vec<u8>> {
     let mut bytes = Vec::new();
     file.by_ref().take(SIGN_BYTES as u64).read_to_end(&mut bytes)?;
     let most = if is_binary(&bytes) { BINARY_BYTES + 1 } else { TEXT_BYTES };

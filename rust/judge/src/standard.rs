@@ -9,6 +9,9 @@ use std::os::fd::FromRawFd;
 use std::os::unix::fs::MetadataExt;
 use std::sync::atomic::{AtomicBool, Ordering::Relaxed};
 
+/// The name that stands for standard input.
+pub const STANDARD_INPUT: &str = "-";
+
 const INPUT: i32 = 0;
 const OUTPUT: i32 = 1;
 
@@ -53,14 +56,19 @@ fn standard(descriptor: i32) -> io::Result<ManuallyDrop<File>> {
     Ok(standing(descriptor))
 }
 
-/// Standard input.
-pub fn input() -> io::Result<ManuallyDrop<File>> {
-    standard(INPUT)
+/// As much of a file as `start` takes, or why it cannot be read.
+pub fn read(file: &OsStr, start: fn(&File) -> io::Result<Vec<u8>>) -> Result<Vec<u8>, String> {
+    let bytes = if file == STANDARD_INPUT {
+        standard(INPUT).and_then(|input| start(&input))
+    } else {
+        open(file).and_then(|file| start(&file))
+    };
+    bytes.map_err(|error| format!("cannot be read: {}", fault(&error)))
 }
 
 /// Opens a file. One that leads to a standard input that is closed, as /dev/stdin does, is closed
 /// too.
-pub fn open(path: &OsStr) -> io::Result<File> {
+fn open(path: &OsStr) -> io::Result<File> {
     if was_closed(INPUT) && leads_to(path, INPUT).is_some() {
         return Err(Error::other("standard input is closed"));
     }

@@ -1,11 +1,12 @@
-//! What is known of a recording: what the proved library says, and what explains it.
+//! What is known of a recording or a plan: what the proved library says, and what explains it.
 
 use crate::answer::{self, Answer};
 use crate::graph::Graph;
 use crate::phrases::place;
 use crate::recording::Recording;
+use crate::schedule::Schedule;
 use crate::why::Why;
-use racejudge::{reaches, Kind, Place, Refusal, Trace, Verdict};
+use racejudge::{reaches, Kind, Leaf, Node, Place, Plan, Refusal, Trace, Verdict};
 
 /// A trace, its graph as far as it keeps the rules, and where it was recorded.
 pub struct Scene<'a> {
@@ -68,6 +69,40 @@ impl<'a> Study<'a> {
     /// The proved answer's own line.
     pub fn line(&self) -> String {
         answer::line(&self.answer, self.scene.as_ref().map_or(0, |scene| scene.trace.len()))
+    }
+}
+
+/// A plan that is judged.
+pub struct Planned<'a> {
+    pub schedule: &'a Schedule,
+    /// Of its trace.
+    pub study: Study<'a>,
+    /// None where there is no race.
+    pub clash: Option<Clash<'a>>,
+}
+
+/// The two leaves of a race, and the operator where they meet.
+pub struct Clash<'a> {
+    pub s: &'a Leaf,
+    pub t: &'a Leaf,
+    pub meet: &'a Node,
+}
+
+impl<'a> Planned<'a> {
+    pub fn new(schedule: &'a Schedule) -> Self {
+        let study = Study::new(&schedule.recording);
+        let clash = match (&study.answer, &schedule.plan) {
+            (Ok(Verdict::Race { s, t, .. }), Ok(plan)) => Clash::of(plan, *s, *t),
+            _ => None,
+        };
+        Planned { schedule, study, clash }
+    }
+}
+
+impl<'a> Clash<'a> {
+    fn of(plan: &'a Plan, s: usize, t: usize) -> Option<Self> {
+        let (s, t) = (plan.leaf_of(s)?, plan.leaf_of(t)?);
+        Some(Clash { s, t, meet: plan.meet(s, t)? })
     }
 }
 

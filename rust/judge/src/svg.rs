@@ -1,7 +1,7 @@
 //! The picture of a run: what ran beside what, which two accesses race, why nothing orders them.
 //!
 //! `story` and `words` know what is to be told, `choice` which events and tasks are drawn, `layout`
-//! where they stand, and `lines` what runs between them. `page`, `figure` and `legend` put it on a
+//! where they stand, `lines` what runs between them, and `strips` a plan beside them. `page`, `figure` and `legend` put it on a
 //! `canvas`, which writes SVG.
 
 mod canvas;
@@ -12,12 +12,14 @@ mod legend;
 mod lines;
 mod page;
 mod story;
+mod strips;
 mod style;
 mod text;
 mod words;
 
 use crate::answer::Answer;
 use crate::graph::Graph;
+use crate::study::Planned;
 use crate::why::Why;
 use racejudge::Trace;
 
@@ -33,4 +35,10 @@ pub fn draw(
 ) -> String {
     let story = story::Story::new(trace, graph, answer, why);
     page::page(&story, &choice::Choice::new(&story), title)
+}
+
+/// Draws a plan, and its run in the same rows. None where there is no plan.
+pub fn draw_plan(planned: &Planned, title: &str) -> Option<String> {
+    let story = story::Story::of_plan(planned)?;
+    Some(page::page(&story, &choice::Choice::new(&story), title))
 }

@@ -4,15 +4,16 @@ mod cards;
 mod files;
 mod judge;
 mod order;
+mod picture;
+mod plan;
 
-pub use judge::Picture;
+pub use picture::Picture;
 
 use crate::answer::Answer;
 use crate::arguments::{Arguments, Options};
 use crate::objects;
 use crate::phrases::printable;
-use crate::recording::STANDARD_INPUT;
-use crate::standard::{complain, fault, print};
+use crate::standard::{complain, fault, print, STANDARD_INPUT};
 use racejudge::Verdict;
 use std::ffi::{OsStr, OsString};
 use std::io;
@@ -75,9 +76,11 @@ struct Word {
 }
 
 /// The first is run where no word is given.
-const WORDS: [Word; 3] = [judge::WORD, order::WORD, cards::WORD];
+const WORDS: [Word; 4] = [judge::WORD, order::WORD, cards::WORD, plan::WORD];
 
 const JSON: &str = "--json";
+const SVG: &str = "--svg";
+const ORDERS: &str = "--orders";
 const HELP: &str = "--help";
 const VERSION: &str = "--version";
 

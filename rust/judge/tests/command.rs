@@ -141,6 +141,18 @@ fn a_wrong_command_line_is_told() {
     wrong_usage(&["cards", "--links", text], "there is no option --links");
     wrong_usage(&["cards", "--svg", &picture, text], "there is no option --svg");
     wrong_usage(&["--busiest", text], "there is no option --busiest");
+    wrong_usage(&["plan"], "no file is given");
+    wrong_usage(&["plan", "--links", text], "there is no option --links");
+    wrong_usage(&["plan", "-", "/dev/stdin"], twice);
+    wrong_usage(&["plan", text, "--svg"], "--svg needs a value behind it");
+    wrong_usage(&["plan", "--svg", &picture, "-"], no_input);
+    wrong_usage(
+        &["plan", "--svg", &picture, text, text],
+        "--svg draws one file, and more are given",
+    );
+    let over = "--svg would write over the file that is to be judged";
+    wrong_usage(&["plan", "--svg", text, text], over);
+    assert_eq!(fs::read_to_string(text).unwrap(), DOCUMENT);
 }
 
 #[test]
@@ -154,8 +166,11 @@ fn help_and_version_are_printed() {
         help.out.lines().nth(2),
         Some("judge [--json] [--svg FILE] [--orders] [--links] FILE...")
     );
-    for (word, usage) in [("order", "[--json] FILE P Q"), ("cards", "[--busiest] [--json] FILE...")]
-    {
+    for (word, usage) in [
+        ("order", "[--json] FILE P Q"),
+        ("cards", "[--busiest] [--json] FILE..."),
+        ("plan", "[--json] [--draw] [--svg FILE] [--orders] FILE..."),
+    ] {
         let line = format!("judge {word} {usage}");
         assert!(help.out.lines().any(|it| it == line), "{line}");
         let own = run([word, "--help"]);

@@ -1,7 +1,8 @@
-//! What the command says of each text of examples/, in words and as JSON, against tests/expected;
-//! the cards of the clean ones; the picture that is kept; and what the documents show of them.
+//! What the command says of each trace and each plan of examples/, in words and as JSON, against
+//! tests/expected; the cards of the clean traces; the pictures that are kept; and what the documents
+//! show of them.
 //!
-//! With JUDGE_EXPECTED=write in the environment the expected files and the picture are written anew,
+//! With JUDGE_EXPECTED=write in the environment the expected files and the pictures are written anew,
 //! to be read through before they are kept.
 
 mod common;
@@ -28,10 +29,48 @@ fn names(folder: &Path, end: &str) -> BTreeSet<String> {
     names.filter_map(|name| name.strip_suffix(end).map(str::to_string)).collect()
 }
 
-/// Runs the command in the folder of the examples, so that it says their short names.
+/// The examples of one kind: the end of their names, the word that judges them, and the folder of
+/// what is expected of them.
+struct Examples {
+    end: &'static str,
+    word: &'static [&'static str],
+    folder: &'static str,
+    least: usize,
+}
+
+const TRACES: Examples = Examples { end: ".std", word: &[], folder: "", least: 9 };
+const PLANS: Examples = Examples { end: ".plan", word: &["plan"], folder: "plan", least: 6 };
+
+impl Examples {
+    fn names(&self) -> BTreeSet<String> {
+        let names = names(&examples(), self.end);
+        assert!(names.len() >= self.least, "{names:?}");
+        names
+    }
+
+    /// What is judged and how, for a run in the folder of the examples, so that it says their short
+    /// names.
+    fn say(&self, name: &str, options: &[&str]) -> Said {
+        let file = format!("{name}{}", self.end);
+        let arguments = self.word.iter().chain(options).copied().chain([file.as_str()]);
+        finish(judge(arguments).current_dir(examples()))
+    }
+
+    /// Each is told in one way, against the expected file of that end. There is none besides.
+    fn each(&self, end: &str, options: &[&str], check: impl Fn(&str, &Said)) {
+        for name in &self.names() {
+            let said = self.say(name, options);
+            hold(&expected(self.folder).join(format!("{name}{end}")), &said.out);
+            assert_eq!(said.err, "");
+            check(name, &said);
+        }
+        assert_eq!(names(&expected(self.folder), end), self.names(), "{end}");
+    }
+}
+
+/// What is said of a trace.
 fn say(name: &str, options: &[&str]) -> Said {
-    let file = format!("{name}.std");
-    finish(judge(options.iter().copied().chain([file.as_str()])).current_dir(examples()))
+    TRACES.say(name, options)
 }
 
 #[track_caller]
@@ -53,39 +92,39 @@ fn status(line: &str) -> i32 {
     }
 }
 
-/// Each example told in one way, against the expected file of that end. There is none besides.
-fn each(end: &str, options: &[&str], check: impl Fn(&str, &Said)) {
-    let texts = names(&examples(), ".std");
-    assert!(texts.len() >= 9, "{texts:?}");
-    for name in &texts {
-        let said = say(name, options);
-        hold(&expected(&format!("{name}{end}")), &said.out);
-        assert_eq!(said.err, "");
-        check(name, &said);
+#[test]
+fn each_example_is_told_in_words() {
+    for examples in [TRACES, PLANS] {
+        examples.each(".txt", &[], |name, said| {
+            assert_eq!(said.status, status(said.out.lines().next().unwrap()), "{name}");
+            let widest = said.out.lines().map(str::len).max();
+            assert!(widest <= Some(100), "{name}: {widest:?} letters in a line");
+            assert!(
+                said.out.lines().all(|line| line == line.trim_end()),
+                "{name}: blanks at a line's end"
+            );
+        });
     }
-    assert_eq!(names(&expected(""), end), texts, "{end}");
 }
 
 #[test]
-fn each_example_is_told_in_words() {
-    each(".txt", &[], |name, said| {
-        assert_eq!(said.status, status(said.out.lines().next().unwrap()), "{name}");
-        let widest = said.out.lines().map(str::len).max();
-        assert!(widest <= Some(100), "{name}: {widest:?} letters in a line");
-        assert!(
-            said.out.lines().all(|line| line == line.trim_end()),
-            "{name}: blanks at a line's end"
-        );
+fn each_plan_is_drawn() {
+    PLANS.each(".drawing", &["--draw"], |name, said| {
+        let words = PLANS.say(name, &[]);
+        assert!(said.out.starts_with(&words.out), "{name}");
+        assert_eq!(said.status, words.status, "{name}");
     });
 }
 
 #[test]
 fn each_example_is_told_as_json() {
-    each(".json", &["--json"], |name, said| {
-        let object = Json::parse(said.out.trim_end()).expect("it is JSON");
-        assert_eq!(said.status, status(object.field("said").text()), "{name}");
-        assert_eq!(object.field("file").text(), format!("{name}.std"));
-    });
+    for examples in [TRACES, PLANS] {
+        examples.each(".json", &["--json"], |name, said| {
+            let object = Json::parse(said.out.trim_end()).expect("it is JSON");
+            assert_eq!(said.status, status(object.field("said").text()), "{name}");
+            assert_eq!(object.field("file").text(), format!("{name}{}", examples.end));
+        });
+    }
 }
 
 /// The others have none: their answer is explained.
@@ -107,28 +146,42 @@ fn each_clean_example_has_cards() {
     }
 }
 
-/// The one that is kept beside the examples, for the README.
+/// Those that are kept beside the examples, for the READMEs.
 #[test]
-fn the_picture_is_the_one_that_is_kept() {
-    let folder = folder();
-    let path = folder.join("picture.svg");
-    let said = say("pipeline_race", &["--svg", path.to_str().expect("a plain path")]);
-    assert_eq!((said.status, said.err.as_str()), (1, ""));
-    let drawn = fs::read_to_string(path).expect("the picture is there");
-    hold(&examples().join("pipeline_race.svg"), &drawn);
+fn the_pictures_are_those_that_are_kept() {
+    for (set, name) in [(TRACES, "pipeline_race"), (PLANS, "sampler_race")] {
+        let folder = folder();
+        let path = folder.join("picture.svg");
+        let said = set.say(name, &["--svg", path.to_str().expect("a plain path")]);
+        assert_eq!((said.status, said.err.as_str()), (1, ""));
+        let drawn = fs::read_to_string(path).expect("the picture is there");
+        hold(&examples().join(format!("{name}.svg")), &drawn);
+    }
 }
 
-/// The first thing that a newcomer reads is what the command says; so with the cards.
+/// As a document shows it.
+fn indented(text: &str) -> String {
+    let line = |line: &str| if line.is_empty() { "\n".into() } else { format!("    {line}\n") };
+    text.lines().map(line).collect()
+}
+
+fn read(path: PathBuf) -> String {
+    fs::read_to_string(path).expect("it can be read")
+}
+
+/// The first thing that a newcomer reads is what the command says; so with the cards and the drawing.
 #[test]
 fn the_readmes_show_what_is_said() {
-    for (readme, said) in
-        [("README.md", "pipeline_race.txt"), ("rust/README.md", "cards/pipeline.txt")]
-    {
-        let text = fs::read_to_string(examples().join("..").join(readme)).expect("it can be read");
-        let said = fs::read_to_string(expected(said)).expect("it can be read");
-        let indented =
-            |line: &str| if line.is_empty() { "\n".into() } else { format!("    {line}\n") };
-        let shown: String = said.lines().map(indented).collect();
+    let said = |name: &str| read(expected(name));
+    let drawing = said("plan/sampler_race.drawing").replace(&said("plan/sampler_race.txt"), "");
+    for (readme, said) in [
+        ("README.md", said("pipeline_race.txt")),
+        ("rust/README.md", said("cards/pipeline.txt")),
+        ("rust/README.md", drawing),
+        ("examples/README.md", said("plan/sampler_race.txt")),
+    ] {
+        let shown = indented(&said);
+        let text = read(examples().join("..").join(readme));
         assert!(text.contains(&shown), "{readme} does not show\n{shown}");
     }
 }
@@ -136,11 +189,25 @@ fn the_readmes_show_what_is_said() {
 /// The README of the examples has the first line of each.
 #[test]
 fn the_examples_say_what_their_table_says() {
-    let table = fs::read_to_string(examples().join("README.md")).expect("the README can be read");
-    for name in names(&examples(), ".std") {
-        let row = table.lines().find(|line| line.starts_with(&format!("| `{name}.std`")));
-        let row = row.unwrap_or_else(|| panic!("no row for {name}"));
-        let first = say(&name, &[]).out.lines().next().unwrap().to_string();
-        assert!(row.contains(&format!("`{first}`")), "{name} says {first}: {row}");
+    let table = read(examples().join("README.md"));
+    for set in [TRACES, PLANS] {
+        for name in set.names() {
+            let file = format!("| `{name}{}`", set.end);
+            let row = table.lines().find(|line| line.starts_with(&file));
+            let row = row.unwrap_or_else(|| panic!("no row for {name}"));
+            let first = set.say(&name, &[]).out.lines().next().unwrap().to_string();
+            assert!(row.contains(&format!("`{first}`")), "{name} says {first}: {row}");
+        }
+    }
+}
+
+/// The table of the plans has their texts.
+#[test]
+fn the_examples_show_their_plans() {
+    let table = read(examples().join("README.md"));
+    for name in PLANS.names() {
+        let plan = read(examples().join(format!("{name}.plan")));
+        let row = format!("| `{name}.plan` | `{}` |", plan.trim_end());
+        assert!(table.contains(&row), "no {row}");
     }
 }

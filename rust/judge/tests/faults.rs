@@ -2,8 +2,8 @@
 
 mod common;
 
-use common::{binary, file, finish, folder, judge, run, Said, DOCUMENT};
-use racejudge::{Event, MAX_EVENTS, TEXT_BYTES};
+use common::{binary, file, finish, folder, judge, plan_at_random, run, Said, DOCUMENT};
+use racejudge::{Event, Plan, PlanError, Refusal, Verdict, MAX_EVENTS, TEXT_BYTES};
 use racejudge_bench::rng::Rng;
 use std::fs::{self, File};
 use std::io::{Seek, Write};
@@ -31,6 +31,7 @@ fn a_closed_standard_input_is_no_empty_one() {
     let told = "judge: /dev/stdin cannot be read: standard input is closed\n";
     assert_eq!((closed.status, closed.out.as_str(), closed.err.as_str()), (3, "", told));
     assert_eq!(redirected("<&-", &["cards", "/dev/stdin"]), closed);
+    assert_eq!(redirected("<&-", &["plan", "/dev/stdin"]), closed);
     // A file is judged all the same.
     let text = file(DOCUMENT);
     assert_eq!(redirected("<&-", &[text.to_str().unwrap()]), run([&text]));
@@ -55,7 +56,9 @@ fn a_standard_input_that_cannot_be_read_is_told() {
 fn lost_output_is_told() {
     let (text, clean) = (file(DOCUMENT), file("T0|w(V5)|1\n"));
     let (text, clean) = (text.to_str().unwrap(), clean.to_str().unwrap());
-    let runs: [&[&str]; 9] = [
+    let plan = file("P(w5,w5)");
+    let plan = plan.to_str().unwrap();
+    let runs: [&[&str]; 11] = [
         &[text],
         &["--json", text],
         &["order", text, "0", "1"],
@@ -63,6 +66,8 @@ fn lost_output_is_told() {
         &["cards", text],
         &["cards", clean],
         &["cards", "--json", clean],
+        &["plan", plan],
+        &["plan", "--json", plan],
         &["--help"],
         &["--version"],
     ];
@@ -271,6 +276,115 @@ fn a_text_of_two_bytes_a_letter_is_known() {
         let said = run([&file(binary(repeat_n(Event::read(0, 5), events)))]);
         assert_eq!((said.status, said.out.lines().next()), (2, Some("refused 2 0")));
     }
+}
+
+/// What is said of a plan's file: the status, the first line and what is told on standard error.
+#[track_caller]
+fn planned(path: &Path, status: i32, line: &str, told: &str) {
+    let said = run(["plan".as_ref(), path.as_os_str()]);
+    let err =
+        if told.is_empty() { String::new() } else { format!("judge: {} {told}\n", path.display()) };
+    assert_eq!((said.status, said.out.lines().next().unwrap_or_default()), (status, line));
+    assert_eq!(said.err, err);
+    assert!(said.out.lines().all(|line| line.len() <= 100), "{}", said.out);
+    assert!(said.out.bytes().all(|byte| matches!(byte, b'\n' | b' '..=b'~')), "{}", said.out);
+}
+
+#[test]
+fn plan_files_of_all_sorts_are_answered_or_told() {
+    let folder = folder();
+    planned(&folder, 3, "", "cannot be read: Is a directory");
+    planned(&folder.join("missing"), 3, "", "cannot be read: No such file or directory");
+    for (content, line) in [
+        (Vec::new(), "refused 17 0"),
+        (b"\n".to_vec(), "refused 17 0"),
+        (b"S(w3,P(r3,r3))\r\n".to_vec(), "refused 17 14"),
+        (binary([Event::fork(0, 1), Event::write(1, 5)]), "refused 17 0"),
+        ((0..=255).collect(), "refused 17 0"),
+        (b"S(".repeat(100_000), "refused 18 128"),
+        (b"P(r1,".repeat(100_000), "refused 18 320"),
+        (b"S(".repeat(64), "refused 17 128"),
+        (b"(".repeat(3 << 20), "refused 17 0"),
+        (b"r1".repeat(3 << 20), "refused 17 2"),
+        (vec![0; 3 << 20], "refused 17 0"),
+    ] {
+        planned(&file(content), 2, line, "");
+    }
+}
+
+/// A plan of twice as many leaves each time.
+fn doubled(times: usize) -> String {
+    (0..times).fold("r1023".to_string(), |plan, _| format!("S({plan},{plan})"))
+}
+
+#[test]
+fn a_plan_of_16_megabytes_is_read_whole_and_no_longer_one() {
+    // 1,048,576 leaves, and twice as many.
+    let (whole, long) = (doubled(20), doubled(21));
+    assert!(whole.len() < 1 << 24 && long.len() > 1 << 24);
+    planned(&file(&whole), 2, "refused 19 0", "");
+    let at = format!("refused 17 {}", whole.len());
+    planned(&file(format!("{whole},")), 2, &at, "");
+    planned(&file(format!("{whole}\n\n")), 2, &at, "");
+    planned(&file(&whole[..whole.len() - 1]), 2, &format!("refused 17 {}", whole.len() - 1), "");
+    let told = "is too long for a plan: more than 16,777,216 bytes";
+    planned(&file(&long), 3, "", told);
+    // A byte that is refused decides, however long the file is.
+    planned(&file(long.replacen("r1023", "r1024", 1)), 2, "refused 17 46", "");
+    let mut input = File::open(&*file(&long)).unwrap();
+    finish(judge(["plan", "-"]).stdin(input.try_clone().unwrap()));
+    assert_eq!(input.stream_position().unwrap(), (1 << 24) + 1);
+}
+
+#[test]
+fn an_endless_plan_is_answered() {
+    for (words, status, line) in
+        [("S(", 2, "refused 17 2"), ("r1", 2, "refused 17 2"), ("", 2, "refused 17 0")]
+    {
+        let mut command = judge(["plan", "-"]);
+        let mut child = Command::new("yes").arg(words).stdout(Stdio::piped()).spawn().unwrap();
+        command.stdin(child.stdout.take().unwrap());
+        let said = finish(&mut command);
+        assert_eq!((said.status, said.out.lines().next()), (status, Some(line)), "{words}");
+        drop(command);
+        child.kill().unwrap();
+        child.wait().unwrap();
+    }
+    let said = run(["plan", "/dev/zero"]);
+    assert_eq!((said.status, said.out.lines().next()), (2, Some("refused 17 0")));
+}
+
+/// Plans with some bytes changed, and noise: what is said is what the library says.
+#[test]
+fn noise_for_a_plan_is_answered_and_nothing_panics() {
+    let mut rng = Rng::new(8);
+    let mut met = [0; 3];
+    for _ in 0..300 {
+        let mut bytes = match rng.below(4) {
+            0 => noise(&mut rng),
+            _ => plan_at_random(&mut rng, 5).into_bytes(),
+        };
+        if rng.chance(1, 3) {
+            let at = rng.below(bytes.len() + 1);
+            bytes.insert(at, rng.cell(256) as u8);
+        }
+        let (status, line) = match Plan::parse(bytes.strip_suffix(b"\n").unwrap_or(&bytes)) {
+            Err(PlanError { refusal: Refusal { row, position }, .. }) => {
+                (2, format!("refused {row} {position}"))
+            }
+            Ok(plan) => match racejudge::judge(plan.trace()).expect("it keeps the rules") {
+                Verdict::Race { s, t, .. } => (1, format!("race {s} {t}")),
+                Verdict::Clean { .. } => (0, format!("clean {}", plan.trace().len())),
+            },
+        };
+        let path = file(&bytes);
+        planned(&path, status, &line, "");
+        let json = run(["plan".as_ref(), "--json".as_ref(), path.as_os_str()]);
+        let object = common::json::Json::parse(json.out.trim_end()).expect("it is JSON");
+        assert_eq!((json.status, object.field("said").text()), (status, &line[..]));
+        met[status as usize] += 1;
+    }
+    assert!(met.iter().all(|&met| met > 30), "{met:?}");
 }
 
 /// A file of noise: of any bytes, of bytes that traces have, or a trace with some bytes changed.

@@ -1,10 +1,15 @@
 //! The picture: well-formed, true to the graph, cut where it must be, with nothing over a label.
 
+mod common;
+
+use common::plan_at_random;
 use judge::answer::{self, Answer};
 use judge::graph::Graph;
-use judge::svg::draw;
+use judge::schedule::Schedule;
+use judge::study::Planned;
+use judge::svg::{draw, draw_plan};
 use judge::why::Why;
-use racejudge::{judge, Event, Kind, Refusal, Trace, Verdict};
+use racejudge::{judge, Event, Kind, Operator, Plan, Refusal, Trace, Tree, Verdict};
 use racejudge_bench::rng::Rng;
 use racejudge_bench::trace as slow;
 use racejudge_bench::{samples, workloads};
@@ -34,8 +39,15 @@ impl Drawn {
             _ => None,
         };
         let text = draw(&trace, &graph, &answer, why.as_ref(), title);
-        let root = xml::parse(&text).unwrap_or_else(|error| panic!("{title}: {error}\n{text}"));
-        Drawn { trace, graph, answer, why, text, root }
+        Drawn { trace, graph, answer, why, root: read(&text, title), text }
+    }
+
+    /// The picture of a plan.
+    fn of_plan(plan: &Plan, title: &str) -> Self {
+        let schedule = Schedule::of(plan.to_string().into_bytes()).expect("a plan");
+        let text = draw_plan(&Planned::new(&schedule), title).expect("a picture");
+        let run = Drawn::new(plan.trace().clone(), title);
+        Drawn { root: read(&text, title), text, ..run }
     }
 
     fn of_events(events: impl IntoIterator<Item = Event>, title: &str) -> Self {
@@ -82,7 +94,14 @@ impl Drawn {
     fn events(&self) -> Vec<(usize, &Element)> {
         let groups = self.root.all("g").into_iter();
         let number = |group: &Element| group.attribute("id")?.strip_prefix("event-")?.parse().ok();
-        groups.map(|group| (number(group).expect("an event's number"), group)).collect()
+        groups.filter_map(|group| number(group).zip(Some(group))).collect()
+    }
+
+    /// The operators and leaves of a plan that are drawn, with their bytes.
+    fn of_plan_class(&self, class: &str) -> Vec<(usize, &Element)> {
+        let groups = self.root.all("g").into_iter().filter(|group| group.has_class(class));
+        let byte = |group: &Element| group.attribute("id")?.strip_prefix("byte-")?.parse().ok();
+        groups.map(|group| (byte(group).expect("a byte"), group)).collect()
     }
 
     fn event(&self, p: usize) -> &Element {
@@ -104,6 +123,10 @@ impl Drawn {
     fn tasks_skipped(&self) -> usize {
         self.of_class("skip").iter().map(|skip| number_in(&skip.text)).sum()
     }
+}
+
+fn read(text: &str, title: &str) -> Element {
+    xml::parse(text).unwrap_or_else(|error| panic!("{title}: {error}\n{text}"))
 }
 
 /// The number of a text, commas left out.
@@ -468,6 +491,161 @@ fn no_line_and_no_label_lies_over_a_label() {
     for drawn in long_runs().into_iter().chain(examples()).chain(random_runs(300)) {
         nothing_lies_over_a_label(&drawn);
     }
+}
+
+/// Plans of all shapes: at random, deep, wide and long.
+fn plans() -> Vec<Plan> {
+    let mut rng = Rng::new(3);
+    let mut texts: Vec<String> = (0..300).map(|i| plan_at_random(&mut rng, 1 + i % 9)).collect();
+    let double = |operator: &str, plan: &str| format!("{operator}({plan},{plan})");
+    for operator in ["S", "P"] {
+        let wide = (0..9).fold("r5".to_string(), |plan, _| double(operator, &plan));
+        let long = (0..4).fold(wide.clone(), |plan, _| double("S", &plan));
+        let deep = |close: &str| format!("{operator}(").repeat(62) + "w5" + &close.repeat(62);
+        texts.push(format!("P({},w5)", deep(",r6)")));
+        texts.push(format!("S({wide},P({wide},w5))"));
+        texts.push(format!("P(S(w5,{wide}),{})", if operator == "S" { &long } else { "r5" }));
+    }
+    // S and P in turn, so that no two of them are one strip.
+    let turns = (0..31).fold("w5".to_string(), |plan, i| format!("P(S({plan},r{i}),s{i})"));
+    texts.push(turns.replace("w5", "P(w5,w5)"));
+    texts
+        .iter()
+        .map(|text| text.parse().unwrap_or_else(|error| panic!("{text}: {error}")))
+        .collect()
+}
+
+/// The operators of a tree that have a strip of their own, with their bytes: an S within an S has
+/// none.
+fn strips<'a>(tree: &'a Tree, within: Option<Operator>, found: &mut Vec<(usize, &'a Tree)>) {
+    let Tree::Node(node) = tree else { return };
+    if node.operator == Operator::Parallel || within != Some(Operator::Series) {
+        found.push((node.position, tree));
+    }
+    strips(&node.left, Some(node.operator), found);
+    strips(&node.right, Some(node.operator), found);
+}
+
+/// The left, top, right and bottom of a rectangle.
+fn rect_box(rect: &Element) -> Box {
+    let [x, y, width, height] = ["x", "y", "width", "height"].map(|name| rect.number(name));
+    [x, y, x + width, y + height]
+}
+
+/// The events that are drawn, and where their rows are.
+fn event_rows(drawn: &Drawn) -> Vec<(usize, f64)> {
+    drawn.events().into_iter().map(|(p, event)| (p, sign(event).1)).collect()
+}
+
+/// The strips of a plan stand in the rows of their events. How many pieces they have, and whether the
+/// picture says that some are not drawn.
+fn check_strips(drawn: &Drawn, plan: &Plan) -> (usize, bool) {
+    let (rows, mut own, mut pieces) = (event_rows(drawn), Vec::new(), 0);
+    strips(plan.tree(), None, &mut own);
+    let shown = drawn.of_plan_class("operator");
+    for (byte, group) in &shown {
+        let (_, tree) = own.iter().find(|(own, _)| own == byte).expect("an operator");
+        let Tree::Node(node) = tree else { panic!("{byte}") };
+        assert_eq!(group.all("text")[0].text, node.operator.to_string());
+        let boxes: Vec<Box> = group.all("rect").into_iter().map(rect_box).collect();
+        let covers = |y: f64| boxes.iter().any(|it| it[1] < y && y < it[3]);
+        for &(p, y) in &rows {
+            assert_eq!(covers(y), tree.events().contains(&p), "event {p} and byte {byte}: {plan}");
+        }
+        pieces += boxes.len();
+    }
+    // All that have a row that is drawn are there, unless the picture says that it is cut.
+    let has_row = |tree: &Tree| rows.iter().any(|(p, _)| tree.events().contains(p));
+    let wanted = own.iter().filter(|(_, tree)| has_row(tree)).count();
+    let says_so = drawn.said().contains("The innermost S and P of the plan are not drawn.");
+    assert_eq!(shown.len() < wanted, says_so, "{plan}");
+    // Outer strips stand left of inner ones, at most twelve beside each other.
+    let lefts = shown.iter().flat_map(|(_, group)| group.all("rect")).map(|it| it.number("x"));
+    let mut lefts: Vec<i64> = lefts.map(|x| x as i64).collect();
+    lefts.sort();
+    lefts.dedup();
+    assert!(lefts.len() <= 12, "{lefts:?}");
+    (pieces, says_so)
+}
+
+/// The leaves of a plan stand in the rows of their events.
+fn check_leaves(drawn: &Drawn, plan: &Plan) {
+    let (rows, leaves) = (event_rows(drawn), drawn.of_plan_class("leaf"));
+    let drawn_leaves = plan.leaves().filter(|leaf| rows.iter().any(|(p, _)| *p == leaf.event));
+    assert!(leaves.iter().map(|(byte, _)| *byte).eq(drawn_leaves.map(|leaf| leaf.position)));
+    for (byte, group) in leaves {
+        let leaf = plan.leaves().find(|leaf| leaf.position == byte).expect("a leaf");
+        let label = group.all("text")[0];
+        assert_eq!(label.text, leaf.to_string());
+        let row = rows.iter().find(|(p, _)| *p == leaf.event).expect("its row").1;
+        assert_eq!(label.number("y"), row + 4.0, "{plan}");
+    }
+}
+
+#[test]
+fn a_plan_stands_in_the_rows_of_its_events() {
+    let (mut pieces, mut cut) = (0, 0);
+    for plan in plans() {
+        let drawn = Drawn::of_plan(&plan, "plan");
+        nothing_lies_over_a_label(&drawn);
+        check_leaves(&drawn, &plan);
+        let (own, says_so) = check_strips(&drawn, &plan);
+        pieces += own;
+        cut += usize::from(says_so);
+    }
+    assert!(pieces > 2_000 && cut > 1, "{pieces} {cut}");
+}
+
+/// The operands that have the colours of the ways, by the bytes of their operators.
+fn toned(drawn: &Drawn) -> Vec<(usize, &'static str)> {
+    let mut toned = Vec::new();
+    for (byte, group) in drawn.of_plan_class("operator") {
+        for rect in group.all("rect") {
+            let tone = ["to-s", "to-t"].into_iter().find(|tone| rect.has_class(tone));
+            toned.extend(tone.map(|tone| (byte, tone)));
+        }
+    }
+    toned
+}
+
+#[test]
+fn the_leaves_of_a_race_are_marked_in_the_plan_and_in_the_run() {
+    let mut races = 0;
+    for plan in plans() {
+        let drawn = Drawn::of_plan(&plan, "plan");
+        let racing = |class| {
+            let groups = drawn.of_plan_class(class).into_iter();
+            groups.filter(|(_, it)| it.has_class("racing")).map(|(byte, _)| byte)
+        };
+        let Some((s, t)) = drawn.pair() else {
+            assert_eq!(racing("leaf").count(), 0);
+            assert!(!drawn.said().contains("meet at the P"));
+            continue;
+        };
+        let [s, t] = [s, t].map(|event| plan.leaf_of(event).expect("a leaf"));
+        assert!(racing("leaf").eq([s.position, t.position]), "{plan}");
+        let meet = plan.meet(s, t).expect("an operator").position;
+        for leaf in [s, t] {
+            let event = drawn.event(leaf.event);
+            assert!(event.has_class("racing"));
+            let note = format!(", {leaf} at byte {}", leaf.position);
+            assert!(event.all("text").iter().any(|text| text.text.ends_with(&note)), "{plan}");
+        }
+        assert_eq!(toned(&drawn), [(meet, "to-s"), (meet, "to-t")], "{plan}");
+        let said = format!(
+            "The {s} at byte {} and the {t} at byte {} meet at the P at byte {meet}.",
+            s.position, t.position
+        );
+        assert!(drawn.said().starts_with(&said), "{}", drawn.said());
+        races += 1;
+    }
+    assert!(races > 100, "{races}");
+}
+
+#[test]
+fn what_is_no_plan_has_no_picture() {
+    let schedule = Schedule::of(b"S(r1".to_vec()).expect("a short text");
+    assert_eq!(draw_plan(&Planned::new(&schedule), "none"), None);
 }
 
 /// The box of a text: its left, top, right and bottom.

@@ -2,7 +2,8 @@
 //!
 //! A [`Trace`] is what one serial run of a fork-join program did, event by event. [`judge`] says
 //! whether two of its accesses could happen in either order; [`cards`] what a clean trace does to
-//! each location; [`reaches`] whether a path of forks and joins leads from one event to another.
+//! each location; [`reaches`] whether a path of forks and joins leads from one event to another. A
+//! [`Plan`] is a schedule in series and parallel, which has a trace before any program runs.
 //! The answers come from a library whose every answer is proved: *clean* means that there is no
 //! race, and not that none was seen.
 //!
@@ -67,9 +68,9 @@
 //! # What there is
 //!
 //! Traces come from events ([`Trace::push`], `collect`), from slices ([`Trace::from_slices`]), from
-//! text ([`Trace::from_text`], which has no sums) or from bytes ([`Trace::from_binary`]). No call
-//! panics on any of them, keeps anything between calls, or reads or writes a file. [`raw`] has the C
-//! interface itself, for callers who lend the buffers.
+//! text ([`Trace::from_text`], which has no sums), from bytes ([`Trace::from_binary`]) or from a plan
+//! ([`Plan::trace`]). No call panics on any of them, keeps anything between calls, or reads or writes
+//! a file. [`raw`] has the C interface itself, for callers who lend the buffers.
 
 #![warn(missing_docs)]
 #![deny(unsafe_code, unsafe_op_in_unsafe_fn)]
@@ -77,6 +78,7 @@
 mod binary;
 mod card;
 mod event;
+mod plan;
 #[allow(unsafe_code)]
 pub mod raw;
 mod refusal;
@@ -86,6 +88,7 @@ mod verdict;
 pub use binary::Damage;
 pub use card::Card;
 pub use event::{Event, Kind, UnknownKind};
+pub use plan::{Leaf, Needs, Node, Operator, Plan, PlanError, Tree};
 pub use refusal::Refusal;
 pub use trace::{Place, Trace};
 pub use verdict::{cards, judge, reaches, Verdict};
@@ -101,6 +104,9 @@ pub const LOCATIONS: usize = 1_024;
 
 /// In the table of joins no more links than these lead from a task to the top of its tree.
 pub const MAX_LINKS: usize = 10;
+
+/// The most levels that S and P of a plan may open within each other.
+pub const MAX_DEPTH: usize = 64;
 
 /// The most events that a text may make, implied halts included.
 pub const MAX_TEXT_EVENTS: usize = 2_048;

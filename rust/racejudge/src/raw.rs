@@ -19,9 +19,10 @@ use crate::Card;
 /// The file name of the archive that is linked.
 pub const ARCHIVE: &str = env!("RACEJUDGE_ARCHIVE");
 
-/// The version of the C interface. Older archives link as well: both refuse sums and make cards that
-/// do not count them, of 8 bytes each, and version 1 leaves the judge's third value unset.
-pub const VERSION: u32 = 3;
+/// The version of the C interface. Older archives have no [`plan`]: what calls it does not link. What
+/// does not may link: versions 1 and 2 refuse sums and make cards that do not count them, of 8 bytes
+/// each, and version 1 leaves the judge's third value unset.
+pub const VERSION: u32 = 4;
 
 /// The workspace has at least this many cells more than the trace has events.
 pub const WORKSPACE: usize = 12_288;
@@ -37,7 +38,7 @@ pub const RACE: u64 = 1;
 pub const NO: u64 = 0;
 /// The ordering call: a path.
 pub const YES: u64 = 1;
-/// The translation: a trace; the first value is the number of its events.
+/// The translation and the reader of plans: a trace; the first value is the number of its events.
 pub const TRANSLATED: u64 = 0;
 /// All calls: a refusal; the first two values are its row and position, any other is 0.
 pub const REFUSED: u64 = 2;
@@ -145,6 +146,11 @@ foreign!(translate
     /// The library's [`translate`].
     pub fn racejudge_translate);
 
+// A plan is handed over as a text is.
+foreign!(translate
+    /// The library's [`plan`].
+    pub fn racejudge_plan);
+
 /// Judges a trace. After a race the first t + 1 cells of `first` and `second` hold the two orders.
 pub fn judge(
     kinds: &[u8],
@@ -210,6 +216,25 @@ pub fn translate(
 ) -> Told<2> {
     // Safe, as in `judge`.
     told!(racejudge_translate, [text], [kinds, tasks, operands])
+}
+
+/// A plan to a trace, whose events are stored at the start of the three slices. These may differ in
+/// length: where one has fewer cells than there are events, the call is refused by row 19.
+///
+/// ```
+/// use racejudge::raw;
+///
+/// let (mut kinds, mut tasks, mut operands) = ([9; 6], [9; 5], [9; 7]);
+/// let told = raw::plan(b"P(r3,s4)", &mut kinds, &mut tasks, &mut operands);
+/// assert_eq!((told.code, told.values), (raw::TRANSLATED, [5, 0]));
+/// assert_eq!((kinds, operands), ([2, 0, 4, 5, 3, 9], [1, 3, 0, 4, 1, 9, 9]));
+///
+/// let told = raw::plan(b"P(r3,s4)", &mut kinds, &mut tasks[1..], &mut operands);
+/// assert_eq!((told.code, told.values), (raw::REFUSED, [19, 0]));
+/// ```
+pub fn plan(text: &[u8], kinds: &mut [u8], tasks: &mut [u16], operands: &mut [u16]) -> Told<2> {
+    // Safe, as in `judge`.
+    told!(racejudge_plan, [text], [kinds, tasks, operands])
 }
 
 /// [`judge`] by any function of that type.

@@ -1,11 +1,11 @@
-//! Why a trace or a text is turned back.
+//! Why a trace, a text or a plan is turned back.
 
 use crate::raw::Told;
 use std::error::Error;
 use std::fmt;
 
-/// Why a trace, a question about it or a text is turned back: the first condition of document 01's
-/// table that holds.
+/// Why a trace, a question about it, a text or a plan is turned back: the first condition of the
+/// table that holds, which document 01 begins and document 02 goes on with.
 ///
 /// ```
 /// use racejudge::{judge, Event, Refusal, Trace};
@@ -21,9 +21,10 @@ use std::fmt;
 /// ```
 #[derive(Clone, Copy, Debug, PartialEq, Eq, Hash)]
 pub struct Refusal {
-    /// The condition's number, 1 to 16.
+    /// The condition's number, 1 to 19.
     pub row: usize,
-    /// The event for rows 5 to 12 and the text's line for rows 14 and 15, counted from 0; else 0.
+    /// The event for rows 5 to 12, the text's line for rows 14 and 15 and the plan's byte for rows
+    /// 17 and 18, counted from 0; else 0.
     pub position: usize,
 }
 
@@ -32,6 +33,7 @@ enum Counted {
     Nothing,
     Events,
     Lines,
+    Bytes,
     Unknown,
 }
 
@@ -64,15 +66,35 @@ impl Refusal {
             }
             15 => "with this line the text makes more than 2,048 events",
             16 => "there are fewer than 1,024 cards",
+            17 => "the byte cannot continue a plan, or the plan breaks off there",
+            18 => "the byte is an S or P that opens level 65",
+            19 => {
+                "a slice has fewer cells than the plan has events, or the plan needs more than 1,024 \
+                 tasks or more than 32,768 events"
+            }
             _ => "no row of the table has this number",
         }
     }
 
+    /// What is refused and by which row, as a clause.
+    pub(crate) fn head(&self) -> String {
+        let Refusal { row, position } = self;
+        let counted = match self.counted() {
+            Counted::Nothing => return format!("the call is refused by row {row}"),
+            Counted::Events => "event",
+            Counted::Lines => "line",
+            Counted::Bytes => "byte",
+            Counted::Unknown => return format!("refused by row {row} at position {position}"),
+        };
+        format!("{counted} {position}, counted from 0, is refused by row {row}")
+    }
+
     fn counted(&self) -> Counted {
         match self.row {
-            1..=4 | 13 | 16 => Counted::Nothing,
+            1..=4 | 13 | 16 | 19 => Counted::Nothing,
             5..=12 => Counted::Events,
             14 | 15 => Counted::Lines,
+            17 | 18 => Counted::Bytes,
             _ => Counted::Unknown,
         }
     }
@@ -81,18 +103,7 @@ impl Refusal {
 /// One sentence, with no full stop: errors are often put behind a colon.
 impl fmt::Display for Refusal {
     fn fmt(&self, f: &mut fmt::Formatter<'_>) -> fmt::Result {
-        let Refusal { row, position } = self;
-        match self.counted() {
-            Counted::Nothing => write!(f, "the call is refused by row {row}")?,
-            Counted::Events => {
-                write!(f, "event {position}, counted from 0, is refused by row {row}")?
-            }
-            Counted::Lines => {
-                write!(f, "line {position}, counted from 0, is refused by row {row}")?
-            }
-            Counted::Unknown => write!(f, "refused by row {row} at position {position}")?,
-        }
-        write!(f, ": {}", self.meaning())
+        write!(f, "{}: {}", self.head(), self.meaning())
     }
 }
 

@@ -1,6 +1,6 @@
 //! A trace, and the ways to make one.
 
-use crate::raw;
+use crate::raw::{self, Told};
 use crate::{Event, Kind, Refusal, MAX_TEXT_EVENTS};
 
 /// Where an event of a text stands.
@@ -70,9 +70,19 @@ impl Trace {
     /// A refusal by row 14 or 15, with the line's number.
     pub fn from_text(text: impl AsRef<[u8]>) -> Result<Self, Refusal> {
         let text = text.as_ref();
-        let (mut kinds, mut tasks, mut operands) =
-            (vec![0; MAX_TEXT_EVENTS], vec![0; MAX_TEXT_EVENTS], vec![0; MAX_TEXT_EVENTS]);
-        let told = raw::translate(text, &mut kinds, &mut tasks, &mut operands);
+        let trace = Trace::written(MAX_TEXT_EVENTS, |kinds, tasks, operands| {
+            raw::translate(text, kinds, tasks, operands)
+        })?;
+        Ok(Trace { places: places(text, &trace.kinds), ..trace })
+    }
+
+    /// The trace that a call writes to slices of so many cells, or why it writes none.
+    pub(crate) fn written(
+        cells: usize,
+        call: impl FnOnce(&mut [u8], &mut [u16], &mut [u16]) -> Told<2>,
+    ) -> Result<Self, Refusal> {
+        let (mut kinds, mut tasks, mut operands) = (vec![0; cells], vec![0; cells], vec![0; cells]);
+        let told = call(&mut kinds, &mut tasks, &mut operands);
         if told.code != raw::TRANSLATED {
             return Err(Refusal::told(told));
         }
@@ -80,8 +90,7 @@ impl Trace {
         kinds.truncate(n);
         tasks.truncate(n);
         operands.truncate(n);
-        let places = places(text, &kinds);
-        Ok(Trace { kinds, tasks, operands, places })
+        Ok(Trace { kinds, tasks, operands, places: Vec::new() })
     }
 
     /// Adds an event at the end. It has no place in a text.

@@ -1,7 +1,8 @@
 //! The numbers of the C header, which the bindings have to say once more.
 
 use racejudge::{
-    raw, Card, Kind, Refusal, LOCATIONS, MAX_EVENTS, MAX_LINKS, MAX_TEXT_EVENTS, TEXT_BYTES,
+    raw, Card, Kind, Refusal, LOCATIONS, MAX_DEPTH, MAX_EVENTS, MAX_LINKS, MAX_TEXT_EVENTS,
+    TEXT_BYTES,
 };
 use std::mem::offset_of;
 
@@ -17,6 +18,7 @@ fn version_and_limits() {
     says(format!("#define RACEJUDGE_MAX_LINKS {MAX_LINKS}\n"));
     says(format!("#define RACEJUDGE_MAX_EVENTS {MAX_EVENTS}\n"));
     says(format!("#define RACEJUDGE_TEXT_EVENTS {MAX_TEXT_EVENTS}\n"));
+    says(format!("#define RACEJUDGE_MAX_DEPTH {MAX_DEPTH}\n"));
     says(format!("#define RACEJUDGE_WORKSPACE {}\n", raw::WORKSPACE));
     says(format!("#define RACEJUDGE_CARDS {LOCATIONS}\n"));
     says(format!("#define RACEJUDGE_NOWHERE {}\n", raw::NOWHERE));
@@ -51,6 +53,7 @@ fn values() {
         ),
         ("ordering", raw::ordering(&[], &[], &[], &mut [], 0, 0).values.len()),
         ("translate", raw::translate(&[], &mut [], &mut [], &mut []).values.len()),
+        ("plan", raw::plan(&[], &mut [], &mut [], &mut []).values.len()),
     ];
     for (call, cells) in stored {
         let prototype = HEADER.split(&format!("uint64_t racejudge_{call}(")).nth(1);

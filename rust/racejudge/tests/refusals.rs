@@ -1,7 +1,7 @@
-//! Every row of document 01's table: how it is met, and what is said of it.
+//! Every row of the table: how it is met, and what is said of it.
 
 use racejudge::{
-    cards, judge, raw, reaches, Card, Event, Refusal, Trace, LOCATIONS, MAX_EVENTS, TASKS,
+    cards, judge, raw, reaches, Card, Event, Plan, Refusal, Trace, LOCATIONS, MAX_EVENTS, TASKS,
 };
 use std::collections::HashSet;
 use std::error::Error;
@@ -106,10 +106,22 @@ fn row_16_which_only_a_lender_of_cards_meets() {
 }
 
 #[test]
+fn rows_17_to_19() {
+    let deep = "P(".repeat(65);
+    let wide = (0..7).fold("w0".to_string(), |plan, _| format!("S({plan},P({plan},{plan}))"));
+    for (plan, row, position) in [("x", 17, 0), (&deep, 18, 128), (&wide, 19, 0)] {
+        assert_eq!(Plan::parse(plan).unwrap_err().refusal, Refusal { row, position });
+    }
+    // Row 19 is a short slice's too, which only a lender meets.
+    let told = raw::plan(b"w0", &mut [7], &mut [], &mut [7]);
+    assert_eq!((told.code, told.values), (raw::REFUSED, [19, 0]));
+}
+
+#[test]
 fn each_row_has_a_sentence_of_its_own() {
-    let refusals = || (1..=16).map(|row| Refusal { row, position: 4_711 });
+    let refusals = || (1..=19).map(|row| Refusal { row, position: 4_711 });
     let meanings: HashSet<&str> = refusals().map(|refusal| refusal.meaning()).collect();
-    assert_eq!(meanings.len(), 16);
+    assert_eq!(meanings.len(), 19);
     for refusal in refusals() {
         let (sentence, row) = (refusal.to_string(), refusal.row);
         assert!(sentence.contains(&format!("row {row}:")), "{sentence}");
@@ -117,6 +129,7 @@ fn each_row_has_a_sentence_of_its_own() {
         let named = match row {
             5..=12 => "event 4711, counted from 0,",
             14 | 15 => "line 4711, counted from 0,",
+            17 | 18 => "byte 4711, counted from 0,",
             _ => "the call",
         };
         assert!(sentence.starts_with(named), "{sentence}");
@@ -126,7 +139,7 @@ fn each_row_has_a_sentence_of_its_own() {
 
 #[test]
 fn a_row_that_is_not_known_is_told_too() {
-    for row in [0, 17, usize::MAX] {
+    for row in [0, 20, usize::MAX] {
         let sentence = Refusal { row, position: usize::MAX }.to_string();
         let start = format!("refused by row {row} at position {}: ", usize::MAX);
         assert!(sentence.starts_with(&start), "{sentence}");

@@ -37,4 +37,8 @@ fn as_many_as_the_call_has() {
         raw::racejudge_translate(none(), 0, none(), 0, none(), 0, none(), 0, values)
     });
     assert_eq!(translated, (raw::SHORT, [0, 0, UNSET, UNSET, UNSET]));
+    let planned = stored(|values| unsafe {
+        raw::racejudge_plan(none(), 0, none(), 0, none(), 0, none(), 0, values)
+    });
+    assert_eq!(planned, (raw::REFUSED, [17, 0, UNSET, UNSET, UNSET]));
 }

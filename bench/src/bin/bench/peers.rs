@@ -1,13 +1,16 @@
-//! What is measured: the linked judge, its peers, and the buffers that are lent to them.
+//! What is measured: the linked judge and plan reader, their peers, and the buffers that are lent to
+//! them.
 
 use racejudge_bench::ancestors::Ancestors;
 use racejudge_bench::cards::cards;
 use racejudge_bench::fasttrack::FastTrack;
-use racejudge_bench::ffi::{self, Judge, Record, Told, BEFORE, PROVED, TWO_ORDERS, UNION_FIND};
+use racejudge_bench::ffi::{self, Judge, Reader, Record, Told};
+use racejudge_bench::ffi::{BEFORE, PLAN, PLAN_C, PROVED, TWO_ORDERS, UNION_FIND};
 use racejudge_bench::joins::links;
+use racejudge_bench::plan::Plan;
 use racejudge_bench::program::mismatch;
 use racejudge_bench::trace::*;
-use std::fmt::Debug;
+use std::fmt::{Debug, Display};
 use std::hint::black_box;
 use std::time::Instant;
 
@@ -26,6 +29,9 @@ pub enum Peer {
     Pass,
     /// An older judge, where one is linked.
     Before,
+    Plan,
+    /// The plan reader by hand.
+    PlanC,
 }
 
 /// Those that run on the traces of a table, in the order of its columns.
@@ -35,10 +41,11 @@ pub const ORDERING: [Peer; 4] = [Peer::Judge, Peer::TwoOrders, Peer::UnionFind, 
 pub const CARDS: [Peer; 3] = [Peer::Cards, Peer::Judge, Peer::Pass];
 pub const CHAINS: [Peer; 3] = [Peer::Judge, Peer::TwoOrders, Peer::UnionFind];
 pub const AGAIN: [Peer; 2] = [Peer::Judge, Peer::Before];
+pub const READING: [Peer; 2] = [Peer::Plan, Peer::PlanC];
 
 impl Peer {
     /// How many there are.
-    pub const COUNT: usize = Peer::Before as usize + 1;
+    pub const COUNT: usize = Peer::PlanC as usize + 1;
 
     pub fn name(self) -> &'static str {
         match self {
@@ -51,15 +58,35 @@ impl Peer {
             Peer::Cards => "judge with cards",
             Peer::Pass => "pass C",
             Peer::Before => "judge before",
+            Peer::Plan => "plan reader",
+            Peer::PlanC => PLAN_C.name,
         }
     }
 }
 
-/// What is run on a trace: the judge, or the ordering call with its two positions.
+/// What a judge does with a trace: it judges it, or says whether one position reaches another.
 #[derive(Clone, Copy, PartialEq)]
 pub enum Call {
     Judge,
     Ordering(usize, usize),
+}
+
+/// What is measured on: a trace, and the plan that makes it, where plans are read.
+pub struct Input {
+    pub trace: Trace,
+    pub plan: String,
+}
+
+impl From<Trace> for Input {
+    fn from(trace: Trace) -> Self {
+        Input { trace, plan: String::new() }
+    }
+}
+
+impl From<Plan> for Input {
+    fn from(plan: Plan) -> Self {
+        Input { trace: plan.trace(), plan: plan.to_string() }
+    }
 }
 
 /// The peers' own memory, and the lent buffers, the same for all.
@@ -70,6 +97,8 @@ pub struct Peers {
     first: Vec<u16>,
     second: Vec<u16>,
     cards: Vec<Record>,
+    /// The slices that a plan is written to.
+    planned: Trace,
 }
 
 impl Peers {
@@ -81,11 +110,13 @@ impl Peers {
             first: vec![0; MAX_EVENTS],
             second: vec![0; MAX_EVENTS],
             cards: vec![Record::UNTOUCHED; LOCATIONS],
+            planned: Trace::of(&[(0, READ, 0); MAX_EVENTS]),
         }
     }
 
-    /// Seconds for a call, the mean of `batch` calls. The trace has been agreed on.
-    pub fn time(&mut self, peer: Peer, call: Call, trace: &Trace, batch: usize) -> f64 {
+    /// Seconds for a call, the mean of `batch` calls. The input has been agreed on.
+    pub fn time(&mut self, peer: Peer, call: Call, input: &Input, batch: usize) -> f64 {
+        let Input { trace, plan } = input;
         let start = Instant::now();
         for _ in 0..batch {
             match peer {
@@ -100,6 +131,8 @@ impl Peers {
                 Peer::Cards => _ = black_box(self.call_with_cards(trace)),
                 // Safe, as for FastTrack.
                 Peer::Pass => unsafe { ffi::pass(trace, black_box(&mut self.cards)) },
+                Peer::Plan => _ = black_box(self.read(&PLAN, plan)),
+                Peer::PlanC => _ = black_box(self.read(&PLAN_C, plan)),
             }
         }
         start.elapsed().as_secs_f64() / batch as f64
@@ -123,6 +156,11 @@ impl Peers {
     fn call_with_cards(&mut self, trace: &Trace) -> Told<3> {
         let Peers { workspace, first, second, cards, .. } = self;
         ffi::judge_cards(trace, workspace, first, second, cards)
+    }
+
+    fn read(&mut self, reader: &Reader, plan: &str) -> Told<2> {
+        let Trace { kinds, tasks, operands } = &mut self.planned;
+        (reader.read)(plan.as_bytes(), kinds, tasks, operands)
     }
 
     /// Before anything is measured the linked judges must say what is wanted and leave the same
@@ -189,15 +227,30 @@ impl Peers {
         self.linked_agree(trace, wanted.into(), |peers, judge| peers.ordering(judge, trace, p, q));
     }
 
+    /// Both plan readers must write the trace and nothing behind it.
+    pub fn agree_on_plan(&mut self, Input { trace, plan }: &Input) {
+        let dirt = (7, 7, 7);
+        let mut wanted = trace.clone();
+        (trace.len()..MAX_EVENTS).for_each(|p| wanted.insert(p, dirt));
+        for reader in [&PLAN, &PLAN_C] {
+            self.planned = Trace::of(&[dirt; MAX_EVENTS]);
+            let told = self.read(reader, plan);
+            said(reader.name, told, Translation::Events(trace.len()).into(), plan);
+            if self.planned != wanted {
+                mismatch(&format!("{} wrote another trace\non {plan}", reader.name));
+            }
+        }
+    }
+
     /// The older judge must give the expected answer.
     pub fn agree_before(&mut self, before: &Judge, trace: &Trace, expected: Answer) {
         said(before.name, Answer::from(self.judge(before, trace)), expected, trace);
     }
 }
 
-/// Ends the run where a judge does not say what is wanted.
-fn said<T: Debug + PartialEq>(name: &str, told: T, wanted: T, trace: &Trace) {
+/// Ends the run where a judge or a reader does not say what is wanted.
+fn said<T: Debug + PartialEq>(name: &str, told: T, wanted: T, on: &impl Display) {
     if told != wanted {
-        mismatch(&format!("{name} said {told:?}, wanted {wanted:?}\non {trace}"));
+        mismatch(&format!("{name} said {told:?}, wanted {wanted:?}\non {on}"));
     }
 }

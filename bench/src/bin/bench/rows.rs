@@ -1,10 +1,11 @@
-//! The rows of the tables: traces of one kind, and the best time of each peer on each.
+//! The rows of the tables: traces or plans of one kind, and the best time of each peer on each.
 
-use crate::peers::{Call, Peer, Peers, AGAIN, CARDS, CHAINS, JUDGING, ORDERING};
+use crate::peers::{Call, Input, Peer, Peers, AGAIN, CARDS, CHAINS, JUDGING, ORDERING, READING};
 use racejudge_bench::extent::Extent;
 use racejudge_bench::ffi::BEFORE;
 use racejudge_bench::joins::links;
 use racejudge_bench::rng::Rng;
+use racejudge_bench::shapes::{Shape, HALVED, RANDOM, SHAPES};
 use racejudge_bench::trace::*;
 use racejudge_bench::workloads::{self, Make, Workload, PAIRS, WORKLOADS};
 
@@ -25,7 +26,7 @@ pub struct Row {
     pub events: usize,
     pub peers: &'static [Peer],
     call: Call,
-    traces: Vec<Trace>,
+    inputs: Vec<Input>,
     batch: usize,
     best: Vec<[f64; Peer::COUNT]>,
 }
@@ -35,10 +36,11 @@ impl Row {
         name: &'static str,
         peers: &'static [Peer],
         call: Call,
-        traces: Vec<Trace>,
+        inputs: Vec<impl Into<Input>>,
         expected: Answer,
     ) -> Self {
-        let events = traces[0].len();
+        let inputs: Vec<Input> = inputs.into_iter().map(Into::into).collect();
+        let events = inputs[0].trace.len();
         let looked_at = match expected {
             Answer::Race(_, t) => t + 1,
             _ => events,
@@ -50,8 +52,8 @@ impl Row {
             peers,
             call,
             batch: if looked_at < SHORT { BATCH } else { 1 },
-            best: vec![[f64::INFINITY; Peer::COUNT]; traces.len()],
-            traces,
+            best: vec![[f64::INFINITY; Peer::COUNT]; inputs.len()],
+            inputs,
         }
     }
 
@@ -59,23 +61,23 @@ impl Row {
         format!("{}{}", self.name, self.detail)
     }
 
-    pub fn traces(&self) -> usize {
-        self.traces.len()
+    pub fn inputs(&self) -> usize {
+        self.inputs.len()
     }
 
     /// How many tasks there are in a trace.
     pub fn tasks(&self) -> usize {
-        Extent::of(&self.traces[0]).tasks
+        Extent::of(&self.inputs[0].trace).tasks
     }
 
-    pub fn measure(&mut self, peers: &mut Peers, peer: Peer, trace: usize) {
+    pub fn measure(&mut self, peers: &mut Peers, peer: Peer, input: usize) {
         let batch = if peer == Peer::Ancestors { 1 } else { self.batch };
-        let time = peers.time(peer, self.call, &self.traces[trace], batch);
-        let best = &mut self.best[trace][peer as usize];
+        let time = peers.time(peer, self.call, &self.inputs[input], batch);
+        let best = &mut self.best[input][peer as usize];
         *best = best.min(time);
     }
 
-    /// The mean over the traces that were measured, in microseconds a call.
+    /// The mean over the inputs that were measured, in microseconds a call.
     pub fn micros(&self, peer: Peer) -> f64 {
         let times = self.best.iter().map(|best| best[peer as usize]);
         let measured: Vec<f64> = times.filter(|time| time.is_finite()).collect();
@@ -84,6 +86,12 @@ impl Row {
 
     pub fn nanos_an_event(&self, peer: Peer) -> f64 {
         self.micros(peer) * 1e3 / self.events as f64
+    }
+
+    /// The same for the bytes of the plans.
+    pub fn nanos_a_byte(&self, peer: Peer) -> f64 {
+        let bytes: usize = self.inputs.iter().map(|input| input.plan.len()).sum();
+        self.micros(peer) * 1e3 * self.inputs.len() as f64 / bytes as f64
     }
 }
 
@@ -95,10 +103,12 @@ pub struct Rows {
     pub cards: Vec<Row>,
     pub chains: Vec<Row>,
     pub again: Vec<Row>,
+    pub plans: Vec<Row>,
+    pub plan_growth: Vec<Row>,
 }
 
 impl Rows {
-    /// With so many traces of full size in each. All judges agree on them.
+    /// With so many traces or plans of full size in each. All that is measured agrees on them.
     pub fn new(peers: &mut Peers, count: usize, rng: &mut Rng) -> Self {
         Rows {
             workloads: workloads(peers, count, rng),
@@ -107,12 +117,15 @@ impl Rows {
             cards: cards(peers, count, rng),
             chains: chains(peers, count, rng),
             again: again(peers, count, rng),
+            plans: SHAPES.iter().map(|shape| plans(peers, shape, MAX_EVENTS, count, rng)).collect(),
+            plan_growth: plan_growth(peers, count, rng),
         }
     }
 
     pub fn all(&mut self) -> impl Iterator<Item = &mut Row> {
-        let Rows { workloads, growth, ordering, cards, chains, again } = self;
-        [workloads, growth, ordering, cards, chains, again].into_iter().flatten()
+        let Rows { workloads, growth, ordering, cards, chains, again, plans, plan_growth } = self;
+        let rows = [workloads, growth, ordering, cards, chains, again, plans, plan_growth];
+        rows.into_iter().flatten()
     }
 }
 
@@ -240,4 +253,24 @@ fn again(peers: &mut Peers, count: usize, rng: &mut Rng) -> Vec<Row> {
         rows.push(Row::new(workload.name, &AGAIN, Call::Judge, traces, expected));
     }
     rows
+}
+
+/// Plans of a shape that make so many events.
+fn plans(peers: &mut Peers, shape: &Shape, n: usize, count: usize, rng: &mut Rng) -> Row {
+    let inputs: Vec<Input> = (0..count).map(|_| shape.plan(n, rng).into()).collect();
+    for input in &inputs {
+        peers.agree_on_plan(input);
+    }
+    // Nothing is judged here.
+    Row::new(shape.name, &READING, Call::Judge, inputs, Answer::Clean)
+}
+
+/// Two shapes at each of the sizes, with as many events in all at each.
+fn plan_growth(peers: &mut Peers, count: usize, rng: &mut Rng) -> Vec<Row> {
+    let sized = [HALVED, RANDOM].into_iter().flat_map(|shape| SIZES.map(|n| (shape.clone(), n)));
+    let row = |(shape, n): (Shape, usize)| {
+        let row = plans(peers, &shape, n, count * MAX_EVENTS / n, rng);
+        Row { detail: format!(", {n} events"), ..row }
+    };
+    sized.map(row).collect()
 }

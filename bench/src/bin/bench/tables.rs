@@ -1,6 +1,6 @@
 //! The tables, in Markdown with columns that line up, and the summary.
 
-use crate::peers::{Peer, AGAIN, CARDS, CHAINS, JUDGING, ORDERING};
+use crate::peers::{Peer, AGAIN, CARDS, CHAINS, JUDGING, ORDERING, READING};
 use crate::rows::{Row, Rows, SIZES};
 use racejudge_bench::trace::MAX_EVENTS;
 use std::iter::once;
@@ -17,6 +17,7 @@ const UNION_FIND: Ratio = Ratio { of: Peer::Judge, over: &[Peer::UnionFind] };
 const FASTTRACK: Ratio = Ratio { of: Peer::Judge, over: &[Peer::FastTrack] };
 const PASS: Ratio = Ratio { of: Peer::Cards, over: &[Peer::Judge, Peer::Pass] };
 const BEFORE: Ratio = Ratio { of: Peer::Judge, over: &[Peer::Before] };
+const READER: Ratio = Ratio { of: Peer::Plan, over: &[Peer::PlanC] };
 
 /// What the judge without cards is measured by.
 const MEASURES: [Ratio; 3] = [TWO_ORDERS, UNION_FIND, FASTTRACK];
@@ -38,13 +39,15 @@ impl Ratio {
 
 /// Targets, each at most this: the time over that of the two orders in C, for both calls; over
 /// FastTrack's; that with cards over the judge's and the pass's; the judge's with long chains over
-/// its own with short ones; over the older judge's, which told no links; an event's in the longest
-/// trace over one's in the shortest, which would be 32 if growth were quadratic.
+/// its own with short ones; over the older judge's, which told no links; the plan reader's over that
+/// of the one in C; an event's in the longest trace over one's in the shortest, or a byte's in the
+/// longest plan, which would be 32 if growth were quadratic.
 const OVER_TWO_ORDERS: f64 = 1.3;
 const OVER_FASTTRACK: f64 = 1.0;
 const OVER_PASS: f64 = 1.3;
 const OVER_SHORT_CHAINS: f64 = 1.25;
 const OVER_BEFORE: f64 = 1.25;
+const OVER_READER: f64 = 1.5;
 const GROWTH: f64 = 2.0;
 
 /// The same over union-find's, on a workload of full length. None where the other algorithms stop
@@ -116,15 +119,18 @@ fn two_places(number: f64) -> String {
 }
 
 pub fn all(rows: &Rows) -> String {
-    let Rows { workloads, growth, ordering, cards, again, .. } = rows;
+    let Rows { workloads, growth, ordering, cards, again, plans, plan_growth, .. } = rows;
     let full = |call: &str| format!("{call} on 32,768 events, microseconds a call:");
     let grown = "Growth of the judge, nanoseconds an event:";
+    let plan_grown = "Growth of the plan reader, nanoseconds a byte:";
     let mut tables = vec![
         table(&full("The judge"), workloads, Row::micros, &JUDGING, &MEASURES),
         table(grown, growth, Row::nanos_an_event, &JUDGING, &MEASURES),
         table(&full("The ordering call"), ordering, Row::micros, &ORDERING, &MEASURES[..2]),
         table(&full("The judge with cards"), cards, Row::micros, &CARDS, &[PASS]),
         chains(&full("Long chains and short"), &rows.chains),
+        table(&full("The plan reader"), plans, Row::micros, &READING, &[READER]),
+        table(plan_grown, plan_growth, Row::nanos_a_byte, &READING, &[READER]),
     ];
     if !again.is_empty() {
         let title = full("The judge and the one before");
@@ -154,13 +160,14 @@ fn long_over_short(pair: &[Row], peer: Peer) -> f64 {
 
 /// A line for each target that tells whether it is met.
 pub fn summary(rows: &Rows) -> String {
-    let Rows { workloads, growth, ordering, cards, chains, again } = rows;
+    let Rows { workloads, growth, ordering, cards, chains, again, plans, plan_growth } = rows;
     let judged = workloads.iter().chain(growth).map(|row| (row, OVER_TWO_ORDERS));
     let ordered = ordering.iter().map(|row| (row, OVER_TWO_ORDERS));
     let full = workloads.iter().filter(|row| row.events == MAX_EVENTS);
     let unlike = full.filter_map(|row| Some((row, over_union_find(row.name)?)));
     let fasttrack = unlike.clone().map(|(row, _)| (row, OVER_FASTTRACK));
     let carded = cards.iter().map(|row| (row, OVER_PASS));
+    let planned = plans.iter().chain(plan_growth).map(|row| (row, OVER_READER));
     let chained = chains.chunks(2).map(|pair| Held {
         ratio: long_over_short(pair, Peer::Judge),
         target: OVER_SHORT_CHAINS,
@@ -173,7 +180,11 @@ pub fn summary(rows: &Rows) -> String {
         ratios("judge", FASTTRACK, fasttrack),
         ratios("judge with cards", PASS, carded),
         nearest(format!("judge, {LONG_OVER_SHORT}"), chained),
-        steepest(growth),
+        steepest("growth", "an event", growth, |row| row.nanos_an_event(Peer::Judge)),
+        ratios("plan reader", READER, planned),
+        steepest("growth of the plan reader", "a byte", plan_growth, |row| {
+            row.nanos_a_byte(Peer::Plan)
+        }),
     ];
     if !again.is_empty() {
         let several = again.iter().filter(|row| row.tasks() > 1);
@@ -209,18 +220,17 @@ fn nearest(name: String, held: impl Iterator<Item = Held>) -> String {
     format!("{name}: {}, {}", verdict(missed == 0), shown.join(", "))
 }
 
-/// What an event takes in the shortest and in the longest trace.
-fn steepest(growth: &[Row]) -> String {
+/// What an event or a byte takes at the smallest size and at the largest.
+fn steepest(name: &str, unit: &str, growth: &[Row], nanos: fn(&Row) -> f64) -> String {
     let mut steepest: f64 = 0.0;
     let mut ends = Vec::new();
     for rows in growth.chunks(SIZES.len()) {
-        let [first, last] =
-            [&rows[0], &rows[SIZES.len() - 1]].map(|r| r.nanos_an_event(Peer::Judge));
+        let [first, last] = [&rows[0], &rows[SIZES.len() - 1]].map(nanos);
         steepest = steepest.max(last / first);
         ends.push(format!("{} {first:.1} to {last:.1}", rows[0].name));
     }
     let (met, ends) = (verdict(steepest <= GROWTH), ends.join(", "));
-    format!("growth: {met}, ns an event from {} to {MAX_EVENTS} events {ends}", SIZES[0])
+    format!("{name}: {met}, ns {unit} from {} to {MAX_EVENTS} events {ends}", SIZES[0])
 }
 
 fn verdict(met: bool) -> &'static str {

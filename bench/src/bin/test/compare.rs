@@ -336,14 +336,14 @@ impl Test {
         judged.or(carded).or(ordered).or(links).or(limits).or(meant)
     }
 
-    pub fn closing_line(&self, translated: usize) -> String {
+    pub fn closing_line(&self, translated: usize, planned: usize) -> String {
         let [judged, carded, ordered] =
             [&self.judged, &self.carded, &self.ordered].map(Counts::sum);
         let Extent { events, tasks } = self.extent;
         format!(
             "{judged} calls of the judge, {carded} of the judge with cards, {ordered} of the \
-             ordering call and {translated} of the translation, up to {events} events, {tasks} \
-             tasks and chains of {MAX_LINKS} links: no mismatch\n"
+             ordering call, {translated} of the translation and {planned} of the plan reader, up to \
+             {events} events, {tasks} tasks and chains of {MAX_LINKS} links: no mismatch\n"
         )
     }
 }
@@ -378,7 +378,7 @@ pub fn held<T>(told: Result<T, String>) -> T {
 }
 
 pub fn first_difference<const N: usize>(
-    call: &str,
+    call: impl Display,
     on: &impl Display,
     wanted: &impl Debug,
     differences: [(&str, Option<String>); N],

@@ -1,8 +1,8 @@
 //! Compares the linked judges with the all-ancestors judge, on document 01's runs, on every short
 //! trace, at the limits, on chains of joins, on counters, on long traces and on random ones, whole
-//! and damaged; and the library's translation of texts with the slow judge's own. The first
-//! difference is printed with its trace or text and ends the test with status 1. `--seed N` draws
-//! others, `--times N` draws more.
+//! and damaged; the library's translation of texts with the slow judge's own; and the plan readers
+//! with a slow one and with what plans mean. The first difference is printed with its trace or text
+//! and ends the test with status 1. `--seed N` draws others, `--times N` draws more.
 
 mod buffer;
 mod chains;
@@ -10,12 +10,16 @@ mod compare;
 mod document;
 mod limits;
 mod meaning;
+mod plans;
 mod plants;
+mod reach;
+mod reading;
 mod sums;
 mod texts;
 mod watch;
 
 use compare::{known, Test};
+use plans::PLANS;
 use racejudge_bench::ffi;
 use racejudge_bench::line::Line;
 use racejudge_bench::program::{fail, print};
@@ -23,7 +27,8 @@ use racejudge_bench::samples;
 use racejudge_bench::trace::*;
 use racejudge_bench::words;
 use racejudge_bench::workloads::WORKLOADS;
-use texts::Texts;
+use reading::Reading;
+use texts::TEXTS;
 
 /// Every trace of up to `more` further events over two locations, of which the first to be touched is
 /// 0, and each way to break a rule in the event after.
@@ -107,7 +112,9 @@ fn main() {
     print(&format!("judge: {}\n", ffi::LINKED));
     watch::start();
     let mut test = Test::new(seed as u64);
+    let [mut texts, mut plans] = [&TEXTS, &PLANS].map(|form| Reading::new(form, seed as u64));
     document::runs(&mut test);
+    plans::runs(&mut plans);
     print(&format!("{} wrong expectations noticed\n", plants::all()));
     document::texts();
     every_short(&mut test, &Trace::default(), 0, 5);
@@ -116,12 +123,19 @@ fn main() {
     print(&format!("{} wrong judges of sums noticed\n", sums::all(&mut test)));
     long_traces(&mut test);
     random_traces(&mut test, times);
-    let mut texts = Texts::new(seed as u64);
+    print(&format!("{} wrong traces of plans noticed\n", reach::wrong_traces(&mut test)));
+    print(&format!("{} wrong rules for leaves noticed\n", reach::wrong_rules(&mut test)));
+    let reach = reach::all(&mut test, &mut plans, times);
     texts::all(&mut texts, times);
+    plans::all(&mut plans, times);
     print(&test.table());
     print(&texts.table());
-    if let Some(missing) = test.missing().or(texts.missing()) {
+    print(&plans.table());
+    print(&reach.line());
+    if let Some(missing) =
+        test.missing().or(texts.missing()).or(plans.missing()).or(reach.missing())
+    {
         fail(&format!("MISSING: never met: {missing}"));
     }
-    print(&test.closing_line(texts.calls()));
+    print(&test.closing_line(texts.calls(), plans.calls()));
 }

@@ -5,7 +5,9 @@ use crate::document::{
     trace, COUNTED, JOINED_BY_WAY_OF_A_SIBLING, JOINS_A_SIBLING, SUM_AND_READ, SUM_AND_WRITE,
     TWO_READERS, TWO_SUMS, WRITES_TWICE, WRITE_AMONG_SUMS,
 };
-use crate::texts::{wanted, Text, Texts, Wanted, ENOUGH};
+use crate::plans::PLANS;
+use crate::reading::{Form, Reading, Text, Wanted};
+use crate::texts::TEXTS;
 use racejudge_bench::ancestors::Outcome;
 use racejudge_bench::program::fail;
 use racejudge_bench::trace::*;
@@ -142,13 +144,16 @@ const ORDERED: [Change<Ordering>; 3] = [
     |wanted| wanted.cleared += 1,
 ];
 
-type TextChange = fn(&mut Wanted);
+type ReadChange = fn(&mut Wanted);
 
-/// A text, and what is made wrong of what is wanted for it: the answer, an event in each slice, the
-/// first cell behind the events.
-const TRANSLATED: [(&str, &[TextChange]); 2] = [
+/// A form and a text, how many cells are lent beside those that it needs, and what is made wrong of
+/// what is wanted: the answer, an event in each slice, the first cell behind the events. Of a plan
+/// also how it forks, which operand comes first, what is joined and when, and which byte is refused.
+const READINGS: [(&Form, &str, isize, &[ReadChange]); 9] = [
     (
+        &TEXTS,
         "T0|fork(T1)|1\nT0|r(V5)|2\n",
+        0,
         &[
             |wanted| wanted.said = Translation::Events(2),
             |wanted| wanted.said = Translation::Short,
@@ -160,21 +165,98 @@ const TRANSLATED: [(&str, &[TextChange]); 2] = [
         ],
     ),
     (
+        &TEXTS,
         "T0|r(V5)|1\nT0|r(V5)\n",
+        0,
         &[
             |wanted| wanted.said = Translation::Refused(14, 0),
             |wanted| wanted.said = Translation::Refused(15, 1),
             |wanted| wanted.events.push(0, READ, 5),
         ],
     ),
+    (
+        &PLANS,
+        "P(r1,w2)",
+        1,
+        &[
+            |wanted| wanted.said = Translation::Events(6),
+            |wanted| wanted.said = Translation::Refused(19, 0),
+            |wanted| events(wanted, "0 read 1, 0 write 2, 0 fork 1, 1 halt, 0 join 1"),
+            |wanted| events(wanted, "0 fork 1, 1 write 2, 1 halt, 0 read 1, 0 join 1"),
+            |wanted| events(wanted, "0 fork 1, 1 read 1, 1 halt, 0 join 1, 0 write 2"),
+            |wanted| events(wanted, "0 fork 1, 1 read 1, 1 halt 1, 0 write 2, 0 join 1"),
+            |wanted| events(wanted, "0 fork 1, 1 read 1, 1 halt, 0 write 2, 1 join 1"),
+            |wanted| events(wanted, "0 fork 2, 2 read 1, 2 halt, 0 write 2, 0 join 2"),
+            |wanted| events(wanted, "0 fork 1, 1 read 1, 1 halt, 0 sum 2, 0 join 1"),
+            |wanted| wanted.events.truncate(4),
+            |wanted| wanted.events.push(0, HALT, 0),
+        ],
+    ),
+    // The inner fork comes second.
+    (
+        &PLANS,
+        "P(P(r1,r1),r1)",
+        0,
+        &[|wanted| {
+            let inner = "2 fork 1, 1 read 1, 1 halt, 2 read 1, 2 join 1";
+            events(wanted, &format!("0 fork 2, {inner}, 2 halt, 0 read 1, 0 join 2"));
+        }],
+    ),
+    (
+        &PLANS,
+        "S(r1,w2)",
+        0,
+        &[
+            |wanted| events(wanted, "0 write 2, 0 read 1"),
+            |wanted| events(wanted, "0 fork 1, 1 read 1, 1 halt, 0 write 2, 0 join 1"),
+        ],
+    ),
+    (
+        &PLANS,
+        "S(w3,P(r3,r3))",
+        -1,
+        &[
+            |wanted| wanted.said = Translation::Events(6),
+            |wanted| wanted.said = Translation::Refused(17, 0),
+            |wanted| wanted.said = Translation::Refused(19, 14),
+            |wanted| wanted.events.push(0, WRITE, 3),
+        ],
+    ),
+    (
+        &PLANS,
+        "S(r1,r1024)",
+        3,
+        &[
+            |wanted| wanted.said = Translation::Refused(17, 8),
+            |wanted| wanted.said = Translation::Refused(17, 10),
+            |wanted| wanted.said = Translation::Refused(18, 9),
+            |wanted| wanted.said = Translation::Events(2),
+            |wanted| wanted.events.push(0, READ, 1),
+        ],
+    ),
+    (&PLANS, "r01", 1, &[|wanted| wanted.said = Translation::Events(1)]),
+    (
+        &PLANS,
+        "S(r1,r1",
+        2,
+        &[
+            |wanted| wanted.said = Translation::Refused(17, 6),
+            |wanted| wanted.said = Translation::Events(2),
+        ],
+    ),
 ];
+
+/// Other events than those that are wanted.
+fn events(wanted: &mut Wanted, run: &str) {
+    wanted.events = trace(run);
+}
 
 /// How many wrong expectations were noticed. One that is not ends the test.
 pub fn all() -> usize {
     let mut test = Test::new(1);
     // A cell that is not cleared is not 0, and a record that is not written is no card.
     test.dirt.fill(u16::MAX);
-    judged(&mut test) + carded(&mut test) + ordered(&mut test) + translated()
+    judged(&mut test) + carded(&mut test) + ordered(&mut test) + read()
 }
 
 /// What the judge needs, with a cell of the workspace more and so many cards.
@@ -223,18 +305,21 @@ fn ordered(test: &mut Test) -> usize {
     JUDGES.len() * ORDERED.len()
 }
 
-fn translated() -> usize {
-    let mut texts = Texts::new(1);
-    // A cell that is not written is none of an event.
-    texts.dirt.fill(u16::MAX);
-    for (text, changes) in TRANSLATED {
+fn read() -> usize {
+    for (form, text, spare, changes) in READINGS {
+        let mut reading = Reading::new(form, 1);
+        // A cell that is not written is none of an event.
+        reading.dirt.fill(u16::MAX);
+        let lent = [(form.need)(text.as_bytes()).saturating_add_signed(spare); 3];
         for change in changes {
-            let mut wanted = wanted(text.as_bytes(), ENOUGH);
+            let mut wanted = (form.wanted)(text.as_bytes(), lent);
             change(&mut wanted);
-            noticed(texts.translated(&Text::from(text), ENOUGH, &wanted), &wanted);
+            for reader in form.readers {
+                noticed(reading.read_by(reader, &Text::from(text), lent, &wanted), &wanted);
+            }
         }
     }
-    TRANSLATED.iter().map(|(_, changes)| changes.len()).sum()
+    READINGS.iter().map(|(form, .., changes)| form.readers.len() * changes.len()).sum()
 }
 
 fn noticed<T>(told: Result<T, String>, wrong: &impl Debug) {

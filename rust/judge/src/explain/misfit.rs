@@ -3,6 +3,8 @@
 
 use super::form::{fitting, is_operation, Wanted};
 use super::refusal::Hint;
+use crate::phrases;
+use racejudge::Plan;
 
 /// What a recorder may write for a sum, which only the binary form has.
 const SUM_OPERATIONS: [&str; 3] = ["s", "sum", "add"];
@@ -10,7 +12,7 @@ const SUM_OPERATIONS: [&str; 3] = ["s", "sum", "add"];
 const LOCK_OPERATIONS: [&str; 3] = ["acq", "rel", "req"];
 const OTHER_OPERATIONS: [&str; 6] = ["begin", "end", "branch", "enter", "exit", "dummy"];
 
-const BYTE_ORDER_MARK: &[u8] = b"\xef\xbb\xbf";
+pub const BYTE_ORDER_MARK: &[u8] = b"\xef\xbb\xbf";
 
 /// A line of a text, without its line feed.
 #[derive(Clone, Copy)]
@@ -49,7 +51,7 @@ impl Misfit {
 /// What is found, and what that usually comes from.
 type Told = (String, Hint);
 
-const fn hint(cause: &'static str, advice: &'static str) -> Hint {
+pub const fn hint(cause: &'static str, advice: &'static str) -> Hint {
     Hint { cause, advice }
 }
 
@@ -61,7 +63,7 @@ const CUT_OFF: Hint = hint(
     "the file breaks off: the recording was stopped, the disk was full, or a copy was cut",
     "Without this line, what stands before it can be judged.",
 );
-const MARK: Hint = hint("an editor put it there", "Save the file as plain text without it.");
+pub const MARK: Hint = hint("an editor put it there", "Save the file as plain text without it.");
 const MARK_WITHIN: Hint =
     hint("files with such marks at their beginnings were put together", "Take it out.");
 const NO_TEXT: Hint =
@@ -70,7 +72,7 @@ const EMPTY: Hint =
     hint("", "There may be no empty line, not even at the end of the file. Remove it.");
 const TOO_SHORT: Hint = hint("the recorder left out the rest of the line", "");
 const NO_SOURCE: Hint = hint("the recorder left out the source line", "");
-const WINDOWS: Hint = hint(
+pub const WINDOWS: Hint = hint(
     "the file has the line ends of Windows",
     "Take the carriage returns out, with dos2unix or with tr -d '\\r'.",
 );
@@ -96,6 +98,7 @@ const LOCKS: Hint = hint(
 const FULL_FORMAT: Hint =
     hint("the trace is of the full STD format", "Leave the lines of this operation out.");
 const SMALL_LETTERS: Hint = hint("", "Operations are written in small letters.");
+const PLAN: Hint = hint("the file is a plan", "Plans are judged by judge plan FILE.");
 const TOO_LONG: Hint =
     hint("something was added to the line, or a line feed is missing between two lines", "");
 const NO_TRACE: Hint =
@@ -149,17 +152,17 @@ fn too_short(line: &[u8], at: usize, wanted: Wanted) -> Option<Told> {
 
 /// What a reader of the line may not see.
 fn unseen(rest: &[u8], wanted: Wanted) -> Option<Told> {
-    Some(match rest {
-        b"\r" => ("a carriage return stands at the end of the line".into(), WINDOWS),
-        [b'\r', ..] => ("a carriage return stands here".into(), NO_LINE_FEEDS),
-        [b' ', ..] => ("a blank stands here".into(), NO_BLANKS),
-        [b'\t', ..] => ("a tab stands here".into(), NO_BLANKS),
-        [byte, ..] if !byte.is_ascii_graphic() => {
-            let hint = if matches!(wanted, Wanted::Task) { NO_TRACE } else { OTHER_FORM };
-            (format!("the byte {byte:#04x} stands here"), hint)
-        }
-        _ => return None,
-    })
+    if rest == b"\r" {
+        return Some(("a carriage return stands at the end of the line".into(), WINDOWS));
+    }
+    let byte = *rest.first()?;
+    let hint = match (byte, wanted) {
+        (b'\r', _) => NO_LINE_FEEDS,
+        (b' ' | b'\t', _) => NO_BLANKS,
+        (_, Wanted::Task) => NO_TRACE,
+        _ => OTHER_FORM,
+    };
+    Some((phrases::unseen(byte)?, hint))
 }
 
 /// A number goes on with letters, as 0x1F and 1F do.
@@ -203,6 +206,7 @@ fn task(rest: &[u8]) -> Told {
     match rest {
         [b't', ..] => ("a small t stands here".into(), LETTERS),
         [b'0'..=b'9', ..] => ("the T before the task's number is missing".into(), LETTERS),
+        _ if Plan::parse(rest).is_ok() => ("a plan stands here".into(), PLAN),
         _ => ("a line begins with T and a number".into(), NO_TRACE),
     }
 }

@@ -3,21 +3,54 @@
 use super::page::Page;
 use super::ways::ways;
 use crate::answer;
-use crate::phrases::{tasks, verb};
-use crate::study::Scene;
+use crate::phrases::{capital, leaf, tasks, verb};
+use crate::study::{Clash, Scene, Study};
 use crate::why::Why;
-use racejudge::{Kind, Refusal};
+use racejudge::{Kind, Refusal, Verdict};
 use std::ops::Range;
 
 /// A race of s and t, with its two orders, shown whole or only around the pair.
 pub struct Race<'a> {
-    pub s: usize,
-    pub t: usize,
-    pub orders: [&'a [u16]; 2],
-    pub why: Option<&'a Why>,
+    s: usize,
+    t: usize,
+    names: Names,
+    orders: [&'a [u16]; 2],
+    why: Option<&'a Why>,
     /// The rule that the trace breaks behind the race.
-    pub broken: Option<Refusal>,
-    pub whole: bool,
+    broken: Option<Refusal>,
+    whole: bool,
+}
+
+/// What the two accesses are called.
+struct Names {
+    s: String,
+    t: String,
+    both: String,
+}
+
+impl Names {
+    fn of_events(s: usize, t: usize) -> Names {
+        let [one, other] = [s, t].map(|p| format!("event {p}"));
+        Names { s: one, t: other, both: format!("events {s} and {t}") }
+    }
+
+    fn of_leaves(clash: &Clash) -> Names {
+        let [s, t] = [clash.s, clash.t].map(leaf);
+        let both = format!("{s} and {t}");
+        Names { s, t, both }
+    }
+}
+
+impl<'a> Race<'a> {
+    /// None where there is no race. That of a plan is of two leaves.
+    pub fn of(study: &'a Study, clash: Option<&Clash>, whole: bool) -> Option<Self> {
+        let Ok(Verdict::Race { s, t, first, second, .. }) = &study.answer else {
+            return None;
+        };
+        let names = clash.map_or_else(|| Names::of_events(*s, *t), Names::of_leaves);
+        let (orders, why, broken) = ([&first[..], &second[..]], study.why.as_ref(), study.broken);
+        Some(Race { s: *s, t: *t, names, orders, why, broken, whole })
+    }
 }
 
 impl Race<'_> {
@@ -28,63 +61,73 @@ impl Race<'_> {
             ways(page, scene, why, self.t);
             self.remedy(page, scene, why);
         }
+        self.orders(page, "judge --orders");
+        // Of a sum it is not plain in which order it counts.
+        let has_sum = [self.s, self.t].iter().any(|&p| scene.kind(p) == Some(Kind::Sum));
+        if let Some(outcome) = self.outcome(scene).filter(|_| has_sum) {
+            page.say(&outcome);
+        }
+        self.outlook(page, scene, "trace");
+    }
+
+    pub fn head(&self, scene: &Scene) -> String {
+        let Names { s, t, both } = &self.names;
+        let location = self.location(scene);
+        let verb_of = |p| scene.kind(p).and_then(verb).unwrap_or("touches");
+        let what = match (scene.kind(self.s), scene.kind(self.t)) {
+            (Some(Kind::Write), Some(Kind::Write)) => {
+                format!("{both} both write location {location}")
+            }
+            _ => {
+                let (one, other) = (verb_of(self.s), verb_of(self.t));
+                format!("{s} {one} location {location}, {t} {other} it")
+            }
+        };
+        format!("{}, and nothing orders them:", capital(&what))
+    }
+
+    /// The two orders; where they are cut, `whole` has all.
+    pub fn orders(&self, page: &mut Page, whole: &str) {
         let orders = self.orders.map(|order| self.order(order));
         let is_cut = orders.iter().any(Order::is_cut);
-        let more = if is_cut { " (judge --orders has all)" } else { "" };
+        let more = if is_cut { format!(" ({whole} has all)") } else { String::new() };
         page.say(&format!(
             "Both orders can happen. They differ only in the two events in brackets{more}:"
         ));
         page.rows(orders.iter().map(Order::row));
-        if let Some(difference) = self.difference(scene) {
-            page.say(&difference);
-        }
-        self.outlook(page, scene);
-    }
-
-    fn head(&self, scene: &Scene) -> String {
-        let Race { s, t, .. } = self;
-        let location = self.location(scene);
-        let verb_of = |p| scene.kind(p).and_then(verb).unwrap_or("touches");
-        let what = match (scene.kind(*s), scene.kind(*t)) {
-            (Some(Kind::Write), Some(Kind::Write)) => {
-                format!("Events {s} and {t} both write location {location}")
-            }
-            _ => {
-                let (one, other) = (verb_of(*s), verb_of(*t));
-                format!("Event {s} {one} location {location}, event {t} {other} it")
-            }
-        };
-        format!("{what}, and nothing orders them:")
     }
 
     fn location(&self, scene: &Scene) -> u16 {
         scene.trace.event(self.t).map_or(0, |event| event.operand)
     }
 
-    /// What becomes of a sum in the two orders; nothing where the pair has none.
-    fn difference(&self, scene: &Scene) -> Option<String> {
-        let Race { s, t, .. } = *self;
-        let (sum, other) = match (scene.kind(s)?, scene.kind(t)?) {
-            (Kind::Sum, _) => (s, t),
-            (_, Kind::Sum) => (t, s),
-            _ => return None,
+    /// What the two orders come to.
+    pub fn outcome(&self, scene: &Scene) -> Option<String> {
+        let (location, Names { s, t, .. }) = (self.location(scene), &self.names);
+        let of_s_and_t = (scene.kind(self.s)?, scene.kind(self.t)?);
+        // A read or a sum is changed by what it comes behind. In the first order t comes behind s.
+        let (ahead, behind, [with, without]) = match of_s_and_t {
+            (Kind::Read, _) | (Kind::Sum, Kind::Write) => (t, s, ["second", "first"]),
+            _ => (s, t, ["first", "second"]),
         };
-        let is_read = scene.kind(other)? == Kind::Read;
-        // The sum counts where the read comes behind it, or where it comes behind the write. In the
-        // first order t comes behind s.
-        let behind = if is_read { other } else { sum };
-        let (with, without) = if behind == t { ("first", "second") } else { ("second", "first") };
-        let location = self.location(scene);
-        Some(if is_read {
-            format!(
-                "In the {with} order event {other} sees what event {sum} adds, in the {without} it \
-                 does not."
-            )
-        } else {
-            format!(
-                "Right after the two, location {location} holds what event {other} writes: in the \
-                 {with} order with what event {sum} adds, in the {without} without."
-            )
+        let right_after = format!("Right after the two, location {location} holds what");
+        Some(match of_s_and_t {
+            (Kind::Write, Kind::Write) => format!(
+                "{right_after} {behind} writes in the {with} order, and what {ahead} writes in the \
+                 {without}."
+            ),
+            (Kind::Write, Kind::Sum) | (Kind::Sum, Kind::Write) => format!(
+                "{right_after} {ahead} writes: in the {with} order with what {behind} adds, in the \
+                 {without} without."
+            ),
+            (kind, Kind::Read) | (Kind::Read, kind) => {
+                let does = if kind == Kind::Sum { "adds" } else { "writes" };
+                format!(
+                    "In the {with} order {behind} sees what {ahead} {does}, in the {without} it does \
+                     not."
+                )
+            }
+            _ => return None,
         })
     }
 
@@ -103,8 +146,10 @@ impl Race<'_> {
     }
 
     /// What may come once the race is mended: nothing behind it was judged.
-    fn outlook(&self, page: &mut Page, scene: &Scene) {
-        page.say("This is the first race of the trace. Others may follow once it is mended.");
+    pub fn outlook(&self, page: &mut Page, scene: &Scene, of: &str) {
+        page.say(&format!(
+            "This is the first race of the {of}. Others may follow once it is mended."
+        ));
         if let Some(refusal) = &self.broken {
             let (line, meaning) = (answer::refused(refusal), refusal.meaning());
             page.add(&format!("Later a rule is broken too: {line} ({meaning})."));

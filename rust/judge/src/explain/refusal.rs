@@ -3,7 +3,7 @@
 use super::collision::collision;
 use super::misfit::{Line, Misfit};
 use super::page::Page;
-use crate::phrases::{capital, count, grouped, visible};
+use crate::phrases::{capital, count, fitting, grouped, visible};
 use crate::recording::Recording;
 use crate::study::Scene;
 use racejudge::{Refusal, MAX_EVENTS, MAX_TEXT_EVENTS};
@@ -28,7 +28,7 @@ pub struct Hint {
 }
 
 impl Hint {
-    fn sentences(&self) -> Vec<String> {
+    pub fn sentences(&self) -> Vec<String> {
         let cause = (!self.cause.is_empty()).then(|| format!("Likely cause: {}.", self.cause));
         let advice = (!self.advice.is_empty()).then(|| self.advice.to_string());
         cause.into_iter().chain(advice).collect()
@@ -127,8 +127,7 @@ fn whole(row: usize, events: usize) -> Reason {
 
 /// The line as far as it is shown. Of a long text not all is read: what follows is not counted.
 fn shown(text: &[u8]) -> String {
-    let fits = |end: &usize| visible(&text[..*end]).len() <= SHOWN_LINE;
-    let end = (0..=text.len().min(SHOWN_LINE)).rev().find(fits).unwrap_or(0);
+    let end = fitting(text, SHOWN_LINE);
     let start = visible(&text[..end]);
     match text.len() {
         read if read == end => start,

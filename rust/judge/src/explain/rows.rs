@@ -45,7 +45,7 @@ impl Scene<'_> {
 }
 
 /// Sets one more column under each other behind the rows.
-fn append(rows: &mut [String], column: impl Iterator<Item = Option<String>>) {
+pub fn append(rows: &mut [String], column: impl Iterator<Item = Option<String>>) {
     let width = rows.iter().map(String::len).max().unwrap_or(0);
     for (row, cell) in rows.iter_mut().zip(column) {
         *row = format!("{row:<width$}{}", cell.unwrap_or_default());

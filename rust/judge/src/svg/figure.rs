@@ -1,12 +1,14 @@
 //! Draws the rows and columns: bands, heads, numbers, lines, events and notes.
 
 use super::canvas::Canvas;
-use super::layout::{gap_words, Layout, Row, LABEL_GAP, MARGIN, ROW, SIGN_GAP};
+use super::layout::{gap_words, Layout, Row, LABEL, LABEL_GAP, MARGIN, ROW, SIGN_GAP};
 use super::lines::{lines, missing_join};
 use super::story::{Mark, Story, Tone};
+use super::strips::{Label, Strip, LEAF_GAP, STRIP};
+use super::text::bold_width;
 use super::words::{label, NO_ORDER};
 use crate::phrases::grouped;
-use racejudge::{Event, Kind};
+use racejudge::{Event, Kind, Operator};
 
 pub struct Figure<'a> {
     pub story: &'a Story<'a>,
@@ -18,6 +20,7 @@ impl Figure<'_> {
     /// Returns how far down it reaches. What is drawn later lies on top.
     pub fn draw(&mut self) -> i32 {
         self.bands();
+        self.plan();
         self.leaders();
         self.heads();
         self.lines();
@@ -47,6 +50,54 @@ impl Figure<'_> {
             };
             self.canvas.rect((MARGIN - 8, top), (right - MARGIN + 16, ROW), class);
         }
+    }
+
+    /// The plan, in the rows of its events.
+    fn plan(&mut self) {
+        let layout = self.layout;
+        let Some((strips, left)) = &layout.plan else { return };
+        self.canvas.text((*left, layout.top + 26), "tiny", "plan");
+        for strip in &strips.strips {
+            self.strip(strip, left + STRIP * strip.level as i32);
+        }
+        for label in &strips.labels {
+            self.leaf(label, left + STRIP * label.level as i32 + LEAF_GAP);
+        }
+    }
+
+    fn strip(&mut self, strip: &Strip, x: i32) {
+        let Strip { operator, position, events, pieces, .. } = strip;
+        let tooltip =
+            format!("{operator} at byte {position}: events {} to {}", events.start, events.end - 1);
+        self.canvas.open(&format!("byte-{position}"), "operator", &tooltip);
+        for piece in pieces {
+            let [top, bottom] = piece.rows.map(|row| self.layout.y(row));
+            let tone = piece.tone.map_or(operator_class(*operator), Tone::class);
+            let size = (STRIP - 4, bottom - top + ROW - 4);
+            self.canvas.rect((x, top - ROW / 2 + 2), size, &format!("strip {tone}"));
+        }
+        if let Some(first) = pieces.first() {
+            let is_meet = pieces.iter().any(|piece| piece.tone.is_some());
+            let class = if is_meet { "hot mid" } else { "mid" };
+            let at = (x + STRIP / 2 - 2, self.layout.y(first.rows[0]));
+            self.canvas.text(at, class, &operator.to_string());
+        }
+        self.canvas.close();
+    }
+
+    fn leaf(&mut self, label: &Label, x: i32) {
+        let Label { leaf, row, .. } = label;
+        let (y, text) = (self.layout.y(*row), leaf.to_string());
+        let (tone, mark) = (self.story.tone(leaf.event), self.story.mark(leaf.event));
+        let class = format!("leaf {}{}", tone.class(), mark_class(mark));
+        let tooltip = format!("{leaf} at byte {}: event {}", leaf.position, leaf.event);
+        self.canvas.open(&format!("byte-{}", leaf.position), &class, &tooltip);
+        if mark == Some(Mark::Racing) {
+            let width = bold_width(&text, LABEL) + 8;
+            self.canvas.rect((x - 4, y - 10), (width, 20), "plate");
+        }
+        self.canvas.text((x, y), weight(mark, tone.class()), &text);
+        self.canvas.close();
     }
 
     /// Leads the eye from events to their notes, where no band does.
@@ -195,6 +246,14 @@ fn weight(mark: Option<Mark>, otherwise: &'static str) -> &'static str {
         Some(Mark::Racing | Mark::Refused) => "hot",
         Some(Mark::Parted) => "bold",
         _ => otherwise,
+    }
+}
+
+/// The class of an operator's strip.
+pub fn operator_class(operator: Operator) -> &'static str {
+    match operator {
+        Operator::Series => "series",
+        Operator::Parallel => "parallel",
     }
 }
 

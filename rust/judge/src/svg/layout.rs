@@ -3,6 +3,7 @@
 
 use super::choice::Choice;
 use super::story::{Mark, Story};
+use super::strips::Strips;
 use super::text::{bold_width, width};
 use super::words::{label, NO_ORDER};
 use crate::phrases::count;
@@ -60,6 +61,8 @@ pub struct Layout {
     /// From an event to the end of its label, at most.
     pub labels: i32,
     pub table: Table,
+    /// The plan, right of the table, and its left.
+    pub plan: Option<(Strips, i32)>,
     /// Where the connection of the two accesses runs, if there is a race, and half the width of the
     /// plate on it.
     pub lane: Option<(i32, i32)>,
@@ -74,9 +77,12 @@ impl Layout {
     pub fn new(story: &Story, choice: &Choice) -> Layout {
         let (rows, row_of) = rows(story, choice);
         let table = table(story, &rows);
+        let strips = story.planned.and_then(|planned| Strips::new(planned, &rows));
+        let plan = strips.map(|strips| (strips, table.right + 18));
+        let right = plan.as_ref().map_or(table.right, |(strips, left)| left + strips.width());
         let half = bold_width(NO_ORDER, LABEL) / 2 + 7;
-        let lane = story.pair.map(|_| (table.right + 14 + half, half));
-        let left = lane.map_or(table.right + 20, |(x, half)| x + half + 2);
+        let lane = story.pair.map(|_| (right + 14 + half, half));
+        let left = lane.map_or(right + 20, |(x, half)| x + half + 2);
         let mut layout = Layout {
             rows,
             row_of,
@@ -86,6 +92,7 @@ impl Layout {
             pitch: 0,
             labels: 0,
             table,
+            plan,
             lane,
             notes: 0,
             width: 0,

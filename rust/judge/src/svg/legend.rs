@@ -1,10 +1,13 @@
 //! What the signs mean, beneath the picture.
 
 use super::canvas::Canvas;
+use super::figure::operator_class;
 use super::layout::{LABEL, MARGIN};
 use super::story::Story;
+use super::strips::STRIP;
 use super::text::{width, wrap};
 use crate::phrases::has_sums;
+use racejudge::Operator;
 
 /// A sign is drawn around the middle of a box that is so wide.
 const SIGN: i32 = 34;
@@ -14,6 +17,7 @@ const ROW: i32 = 30;
 const LINE: i32 = 17;
 
 enum Sign {
+    Operator(Operator),
     Write,
     Read,
     Sum,
@@ -52,6 +56,10 @@ fn signs(story: &Story) -> Vec<(Sign, String)> {
         (Sign::Halt, "halt: it ends".into()),
         (Sign::Join, "join: waits for the end".into()),
     ]);
+    if story.planned.is_some() {
+        signs.push((Sign::Operator(Operator::Series), "S: one after the other".into()));
+        signs.push((Sign::Operator(Operator::Parallel), "P: side by side".into()));
+    }
     let Some((s, t)) = story.pair else { return signs };
     if story.why.is_some() {
         signs.push((Sign::ToS, format!("way to event {s}")));
@@ -86,6 +94,7 @@ fn draw(canvas: &mut Canvas, sign: &Sign, (x, y): (i32, i32)) {
     let (left, right) = (x - 12, x + 12);
     let across = [(x - 17, y), (x + 17, y)];
     match sign {
+        Sign::Operator(operator) => strip(canvas, *operator, (x, y)),
         Sign::Write => canvas.circle((x, y), 5, "full plain"),
         Sign::Read => canvas.circle((x, y), 5, "hollow plain"),
         Sign::Sum => canvas.sum((x, y), 5, "sum plain"),
@@ -112,4 +121,17 @@ fn draw(canvas: &mut Canvas, sign: &Sign, (x, y): (i32, i32)) {
         }
         Sign::Pale => canvas.line(&across, "line life pale"),
     }
+}
+
+/// That of a P has two pieces, one for each operand.
+fn strip(canvas: &mut Canvas, operator: Operator, (x, y): (i32, i32)) {
+    let class = format!("strip {}", operator_class(operator));
+    let pieces: &[(i32, i32)] = match operator {
+        Operator::Series => &[(y - 12, 24)],
+        Operator::Parallel => &[(y - 12, 17), (y + 7, 7)],
+    };
+    for &(top, height) in pieces {
+        canvas.rect((x - STRIP / 2 + 2, top), (STRIP - 4, height), &class);
+    }
+    canvas.text((x, y - 3), "mid", &operator.to_string());
 }

@@ -14,11 +14,14 @@ const TITLE: i32 = 18;
 const SAY: i32 = 13;
 const SAY_LINE: i32 = 19;
 
+const DEEPER: &str = "The innermost S and P of the plan are not drawn.";
+
 pub fn page(story: &Story, choice: &Choice, title: &str) -> String {
     let mut layout = Layout::new(story, choice);
     let inner = layout.width - 2 * MARGIN;
     let mut told = story.summary();
     told.extend(story.extent(choice.events(), choice.tasks()));
+    told.extend(layout.plan.iter().filter(|(strips, _)| strips.is_cut).map(|_| DEEPER.into()));
     let said: Vec<String> = told.iter().flat_map(|text| wrap(text, SAY, inner)).collect();
     let mut canvas = Canvas::default();
     layout.top = words(&mut canvas, story, &shorten(title, TITLE, inner), &said);

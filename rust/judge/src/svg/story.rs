@@ -3,8 +3,9 @@
 use crate::answer::Answer;
 use crate::graph::Graph;
 use crate::phrases::place;
+use crate::study::{Clash, Planned};
 use crate::why::Why;
-use racejudge::{Refusal, Trace, Verdict};
+use racejudge::{Leaf, Refusal, Trace, Verdict};
 
 /// How an event or an arc concerns the race. The order is that of painting: the last is on top.
 #[derive(Clone, Copy, Debug, PartialEq, Eq, PartialOrd, Ord)]
@@ -54,6 +55,8 @@ pub struct Story<'a> {
     pub graph: &'a Graph,
     pub answer: &'a Answer,
     pub why: Option<&'a Why>,
+    /// The plan that the run is of, if it is of one.
+    pub planned: Option<&'a Planned<'a>>,
     /// The two accesses of a race.
     pub pair: Option<(usize, usize)>,
     /// The event that breaks a rule: it stands behind those of the graph.
@@ -91,10 +94,18 @@ impl<'a> Story<'a> {
         };
         let why = why.filter(|_| pair.is_some());
         let (onward, parts) = (Vec::new(), Vec::new());
-        let mut story = Story { trace, graph, answer, why, pair, refused, onward, parts };
+        let planned = None;
+        let mut story = Story { trace, graph, answer, why, planned, pair, refused, onward, parts };
         story.parts = vec![Part { tone: story.rest_tone(), before: None }; graph.len()];
         story.tell_parts();
         story
+    }
+
+    /// None where there is no plan.
+    pub fn of_plan(planned: &'a Planned<'a>) -> Option<Self> {
+        let (study, scene) = (&planned.study, planned.study.scene.as_ref()?);
+        let story = Story::new(scene.trace, &scene.graph, &study.answer, study.why.as_ref());
+        Some(Story { planned: Some(planned), ..story })
     }
 
     /// Finds the events that reach one of the two accesses, and those on the ways to them.
@@ -169,6 +180,16 @@ impl<'a> Story<'a> {
         } else {
             None
         }
+    }
+
+    /// The two leaves of a plan's race.
+    pub fn clash(&self) -> Option<&Clash<'_>> {
+        self.planned?.clash.as_ref()
+    }
+
+    /// The leaf of a plan that made an event.
+    pub fn leaf(&self, p: usize) -> Option<&Leaf> {
+        self.planned?.schedule.plan.as_ref().ok()?.leaf_of(p)
     }
 
     /// The text line, counted from 1, and the source line. A halt has no line of the text.

@@ -51,6 +51,10 @@ font-size:17px;font-weight:700}
 text.pale{fill:#9b9b9b}
 text.to-s{fill:#005a8c}
 text.to-t{fill:#7d5600}
+.strip.series{fill:#e4e4e4}
+.strip.parallel{fill:#cfe3f0}
+.strip.to-s{fill:#8fc3e3}
+.strip.to-t{fill:#f2c76e}
 .ring{fill:#fff;stroke:#c44f00;stroke-width:3}
 .missing{fill:none;stroke:#c44f00;stroke-width:2.5;stroke-dasharray:7 5}
 .cross{fill:none;stroke:#c44f00;stroke-width:3;stroke-linecap:round}

@@ -2,7 +2,8 @@
 
 use super::story::{Mark, Story};
 use crate::answer;
-use crate::phrases::{capital, clean_before, deed, grouped, has_sums};
+use crate::phrases::{capital, clean_before, deed, grouped, has_sums, leaf};
+use crate::study::Clash;
 use racejudge::{Event, Kind, Refusal, Verdict};
 
 /// What connects the two accesses of a race.
@@ -21,8 +22,9 @@ impl Story<'_> {
         Some(match self.mark(p)? {
             Mark::Racing => {
                 let act = self.trace.event(p).map(deed)?;
-                let place = self.place(p).map(|(_, source)| format!(", source line {source}"));
-                act + &place.unwrap_or_default()
+                let source = self.place(p).map(|(_, source)| format!(", source line {source}"));
+                let leaf = self.leaf(p).map(|leaf| format!(", {leaf} at byte {}", leaf.position));
+                act + &source.or(leaf).unwrap_or_default()
             }
             Mark::Parted => "the last event before both".into(),
             Mark::Ended => format!("task {holder} ends: by now event {s} is done"),
@@ -94,18 +96,27 @@ impl Story<'_> {
 
     fn race_summary(&self, s: usize, t: usize) -> Vec<String> {
         let act = |p: usize| self.trace.event(p).map(deed).unwrap_or_default();
-        let mut told = vec![format!(
+        let mut told: Vec<String> = self.meeting().into_iter().collect();
+        told.push(format!(
             "Event {s} ({}) and event {t} ({}): no path of forks and joins leads from one to the \
              other, so either can come first.",
             act(s),
             act(t)
-        )];
+        ));
         if let Some(why) = self.why {
             let fork = self.trace.event(why.parted).map(deed).unwrap_or_default();
             told.push(format!("The ways to them part at event {} ({fork}).", why.parted));
             told.extend(self.lacking(t));
         }
         told
+    }
+
+    /// Where the two leaves of a plan's race meet.
+    fn meeting(&self) -> Option<String> {
+        let Clash { s, t, meet } = self.clash()?;
+        let (operator, position) = (meet.operator, meet.position);
+        let both = capital(&format!("{} and {}", leaf(s), leaf(t)));
+        Some(format!("{both} meet at the {operator} at byte {position}."))
     }
 
     /// What would have ordered s before t.
@@ -121,7 +132,10 @@ impl Story<'_> {
             Some((line, source)) => {
                 format!("event {p}: {act} (text line {line}, source line {source})")
             }
-            None => format!("event {p}: {act}"),
+            None => match self.leaf(p) {
+                Some(leaf) => format!("event {p}: {act} ({leaf} at byte {})", leaf.position),
+                None => format!("event {p}: {act}"),
+            },
         }
     }
 

@@ -3,6 +3,7 @@
 use super::files::Files;
 use super::{Failure, Status, Word, HELP, JSON, JUDGED};
 use crate::arguments::{Arguments, Options};
+use crate::recording::Recording;
 use crate::standard::print;
 use crate::study::Study;
 use crate::{explain, objects};
@@ -34,7 +35,7 @@ Where it is not clean there are no cards, and the race or the refusal is explain
 
 fn run(arguments: Arguments) -> Result<Status, Failure> {
     let (busiest, json) = (arguments.has(BUSIEST), arguments.has(JSON));
-    Files::of(arguments.operands)?.each(json, |file, above, recording| {
+    Files::of(arguments.operands)?.each(json, Recording::read, |file, above, recording| {
         let study = Study::new(recording);
         print(&if json {
             objects::counted(file, &study, busiest)

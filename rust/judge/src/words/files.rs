@@ -1,8 +1,7 @@
 //! The files that a word is given, told of one after the other.
 
 use super::{name, unread, Failure, Status};
-use crate::recording::{Recording, STANDARD_INPUT};
-use crate::standard::shares_input;
+use crate::standard::{shares_input, STANDARD_INPUT};
 use std::ffi::{OsStr, OsString};
 
 /// There is one at least, and standard input is among them once at most.
@@ -29,20 +28,21 @@ impl Files {
         }
     }
 
-    /// Reads each file and has it told, with what stands above its words. The highest status
-    /// counts.
-    pub fn each(
+    /// Reads each file and has what it holds told, with what stands above its words. The highest
+    /// status counts.
+    pub fn each<Held>(
         &self,
         json: bool,
-        tell: impl Fn(&OsStr, String, &Recording) -> Result<Status, Failure>,
+        read: fn(&OsStr) -> Result<Held, String>,
+        tell: impl Fn(&OsStr, String, &Held) -> Result<Status, Failure>,
     ) -> Result<Status, Failure> {
         let (mut worst, mut begun) = (Status::Good, false);
         for file in &self.0 {
-            let status = match Recording::read(file) {
-                Ok(recording) => {
+            let status = match read(file) {
+                Ok(held) => {
                     let above = self.above(file, begun);
                     begun = true;
-                    tell(file, above, &recording)?
+                    tell(file, above, &held)?
                 }
                 Err(wrong) => unread(file, &wrong, json)?,
             };

@@ -7,6 +7,7 @@ pub mod cards;
 pub mod json;
 
 use racejudge::{Event, Trace};
+use racejudge_bench::rng::Rng;
 use racejudge_bench::trace as slow;
 use std::ffi::OsStr;
 use std::fs;
@@ -47,6 +48,12 @@ impl From<Output> for Said {
 /// Runs the command to its end.
 pub fn run<S: AsRef<OsStr>>(arguments: impl IntoIterator<Item = S>) -> Said {
     finish(&mut judge(arguments))
+}
+
+/// Runs `plan` with options on one file.
+pub fn plan(options: &[&str], path: impl AsRef<OsStr>) -> Said {
+    let options = options.iter().map(OsStr::new);
+    run([OsStr::new("plan")].into_iter().chain(options).chain([path.as_ref()]))
 }
 
 pub fn finish(command: &mut Command) -> Said {
@@ -100,6 +107,26 @@ pub fn file(content: impl AsRef<[u8]>) -> Temporary {
 pub fn binary(events: impl IntoIterator<Item = Event>) -> Vec<u8> {
     let trace: Trace = events.into_iter().collect();
     trace.to_binary().expect("few events")
+}
+
+/// A plan at random, of few locations.
+pub fn plan_at_random(rng: &mut Rng, depth: usize) -> String {
+    let operator = match rng.below(5) {
+        1 | 2 if depth > 0 => "S",
+        3 | 4 if depth > 0 => "P",
+        _ => return format!("{}{}", ["r", "w", "s"][rng.below(3)], rng.one_of(&[0, 7, 10, 1_023])),
+    };
+    let [left, right] = [0, 1].map(|_| plan_at_random(rng, depth - 1));
+    format!("{operator}({left},{right})")
+}
+
+/// A plan of so many leaves, as flat as it can be.
+pub fn balanced(operator: char, leaves: usize) -> String {
+    if leaves == 1 {
+        return "r7".to_string();
+    }
+    let (left, right) = (leaves / 2, leaves - leaves / 2);
+    format!("{operator}({},{})", balanced(operator, left), balanced(operator, right))
 }
 
 /// The slow judge's trace for the library.
