@@ -199,7 +199,8 @@ uint64_t racejudge_translate(const uint8_t *text, size_t text_len, uint8_t *kind
  *   RACEJUDGE_TRANSLATED   n, 0               the n events stand at the start of the three slices
  *   RACEJUDGE_REFUSED      number, position   number is 17, 18 or 19
  * The slices may differ in length: each needs n cells. The cells past the events are unchanged; after a
- * refusal all cells are. The trace keeps the rules: racejudge_judge answers clean or race. */
+ * refusal all cells are. The trace, which is the first n cells of each slice, keeps the rules: of it
+ * racejudge_judge answers clean or race, where workspace and order buffers are long enough. */
 uint64_t racejudge_plan(const uint8_t *text, size_t text_len, uint8_t *kinds, size_t kinds_len,
                         uint16_t *tasks, size_t tasks_len, uint16_t *operands, size_t operands_len,
                         uint64_t values[2]);
