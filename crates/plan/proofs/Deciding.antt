@@ -8,11 +8,11 @@ use mathlib.Core.Logic.{_⊎_, inl, inr, _↔_}
 use lib.Dec.{ltb}
 use lib.ListN.{length}
 use Rattle.trace.specs.Trace.{Event, TASKS, MAX-EVENTS}
-use Rattle.trace.specs.Outcome.{Reply, says, refused}
+use Rattle.trace.specs.Outcome.{Reply, says}
 use Rattle.trace.specs.Slices.{Slices, Translated, leaving}
 use Rattle.trace.proofs.Tests.{by-test, either, Tests, tests-fails, tests-false, test-lt, test-or}
 use Rattle.plan.specs.Plans.{Plan, LEVELS, IsPlan}
-use Rattle.plan.specs.Events.{forks, eventsOf}
+use Rattle.plan.specs.Events.{forks}
 use Rattle.plan.specs.Leaves.{events}
 use Rattle.plan.specs.Decided.{Fits, Decided, accepted, stray, deep, too-large, DecidedBy}
 use Rattle.plan.specs.Reading.{Whole, rejected, whole}

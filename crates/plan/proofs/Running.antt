@@ -14,12 +14,12 @@ use Rattle.trace.specs.Graph.{Reach}
 use Rattle.trace.proofs.Tests.{either}
 use Rattle.trace.proofs.EventKinds.{access-not-join}
 use Rattle.trace.proofs.Paths.{Forward, reach-le}
-use Rattle.trace.proofs.Stacks.{In, in-eq, updated, updated-same, updated-other}
+use Rattle.trace.proofs.Stacks.{In, updated, updated-same, updated-other}
 use Rattle.trace.proofs.Tips.{ReachesTip}
 use Rattle.trace.proofs.Run.{Run, used-numbers, access, fork, join, halt}
 use Rattle.plan.specs.Plans.{Plan, leaf, pair, InRange}
 use Rattle.plan.specs.Events.{kindOf, event, haltOperand, forks, eventsFrom}
-use Rattle.plan.specs.Leaves.{Leaf, here, of-left, of-right, kindAt, locationAt, events, position, InSeries}
+use Rattle.plan.specs.Leaves.{Leaf, here, of-left, of-right, events, position, InSeries}
 use Rattle.plan.specs.Decided.{IsLeaf}
 use Rattle.plan.specs.declared.Access.{Access}
 use Rattle.plan.specs.declared.Access.the-variants.{Read, Write, Sum}

@@ -1,14 +1,14 @@
 -- Stretches of a trace that are entered by one tip and left by one: an earlier event reaches all events of a stretch or none. The events of a plan are one, and so
 -- those of S(G1,G2) are two in a row (`stretch-series`), and those of P(G1,G2) two beside each other (`stretch-parallel`). Assumes nothing.
 use Prim.Native.Nat.{ℕ, suc, _+_, _<_, _≤_}
-use mathlib.Core.Path.{_≡_, refl, sym, subst, _∙_}
+use mathlib.Core.Path.{_≡_, refl, subst, _∙_}
 use mathlib.Core.List.{List, _∷_}
 use mathlib.Core.Logic.{_⊎_, inl, inr, _≢_, _↔_}
 use native.Mathlib.Omega.{arith}
 use Rattle.trace.specs.Trace.{Trace, JOIN}
 use Rattle.trace.specs.Line.{Line}
 use Rattle.trace.specs.Graph.{Reach}
-use Rattle.trace.proofs.Tests.{either, same-or-not, lt-or-le}
+use Rattle.trace.proofs.Tests.{either, lt-or-le}
 use Rattle.trace.proofs.Paths.{Forward, reach-refl}
 use Rattle.trace.proofs.Stacks.{In}
 use Rattle.trace.proofs.Run.{Run}

@@ -1,11 +1,10 @@
 -- THE TRACE OF A PLAN (`plan-traces`): its events keep the line rules, have each leaf at its position, and of two leaves the first reaches the second exactly if the
 -- operator where they meet is S and the first is in its left operand. And so does the trace that the slices hold (`traces-plan`). Assumes nothing.
 use Prim.Native.Nat.{ℕ, suc, _+_, _<_, _≤_}
-use mathlib.Core.Path.{_≡_, refl, sym, ap, subst, _∙_}
+use mathlib.Core.Path.{_≡_, ap, subst, _∙_}
 use mathlib.Core.List.{List, [], _∷_, _++_, map}
-use mathlib.Core.Logic.{inl, inr}
 use native.Mathlib.Omega.{arith}
-use lib.ListN.{length, take, drop, getD, length-map}
+use lib.ListN.{length, take, getD, length-map}
 use lib.Seq.{take-at}
 use Rattle.trace.specs.Trace.{Trace, traceOf, Event, TASKS}
 use Rattle.trace.specs.Line.{haltOperand}
@@ -19,9 +18,9 @@ use Rattle.trace.proofs.Forward.{forward}
 use Rattle.plan.specs.Plans.{Plan, LEVELS, InRange, IsPlan}
 use Rattle.plan.specs.Events.{forks, eventsOf}
 use Rattle.plan.specs.Leaves.{events}
-use Rattle.plan.specs.Decided.{Fits, Decided, accepted, stray, deep, too-large, DecidedBy, traceIn, Traces, TracesPlan}
+use Rattle.plan.specs.Decided.{Fits, Decided, accepted, DecidedBy, traceIn, Traces, TracesPlan}
 use Rattle.plan.proofs.EventOrder.{events-length}
-use Rattle.plan.proofs.Running.{Is, Stand, Fresh, Ran, ran, leaf-stands}
+use Rattle.plan.proofs.Running.{Stand, Ran, ran, leaf-stands}
 
 -- ---- a trace in which the events stand
 

@@ -1,5 +1,5 @@
 -- The laws behind `emit`: at each turn of its loop some of the plan's events are stored, and the machine goes on to write the others (`Stage`). Assumes nothing.
-use Prim.Native.Nat.{ℕ, zero, suc, _+_, _-_, _≤_, _<_}
+use Prim.Native.Nat.{ℕ, _+_, _-_, _≤_, _<_}
 use native.Mathlib.Omega.{arith}
 use mathlib.Core.Path.{_≡_, refl, sym, ap, _∙_}
 use mathlib.Core.List.{List, [], _∷_, _++_, append-nil, append-assoc}
@@ -10,8 +10,8 @@ use Rattle.trace.proofs.Slices.{storeAll-append}
 use Rattle.plan.specs.Plans.{Plan, LEVELS, IsPlan}
 use Rattle.plan.specs.Events.{eventsOf}
 use Rattle.plan.proofs.Accepts.{one-plan}
-use Rattle.plan_reader.specs.Machine.{Frame, State, state, Step, goes, stepOf, Runs, ended, steps}
-use Rattle.plan_reader.specs.Machine.{STACK-CELLS, framesIn, stateOf, Stands, Goes, Went, After, Ready, Emitted}
+use Rattle.plan_reader.specs.Machine.{State, goes, stepOf, Runs, ended, steps}
+use Rattle.plan_reader.specs.Machine.{STACK-CELLS, stateOf, Stands, Goes, Went, After, Ready, Emitted}
 use Rattle.plan_reader.specs.declared.emission.Writer.{Writer}
 use Rattle.plan_reader.proofs.Writing.{whole-runs}
 use Rattle.plan_reader.proofs.Stepping.{SameLengths, storeAll-same, frames-length, room-kept}

@@ -1,14 +1,13 @@
 -- The laws behind `too_large` and `translate`: which outcome each of its returns gives, and that `emit` is called where a plan was read that has room. Assumes nothing.
 use Prim.Native.Nat.{ℕ, _+_, _≤_, _<_}
 use native.Mathlib.Omega.{arith}
-use mathlib.Core.Path.{_≡_, refl, sym, ap, _∙_}
+use mathlib.Core.Path.{_≡_, refl, sym, _∙_}
 use mathlib.Core.Bool.{Bool, true, false}
 use mathlib.Core.List.{List}
 use lib.Dec.{ltb}
 use lib.ListN.{length}
 use borrow.Author.Tests.{lt-ltb, le-ltb}
 use Rattle.trace.specs.Trace.{TASKS, MAX-EVENTS}
-use Rattle.trace.specs.Outcome.{Reply, says, refused}
 use Rattle.trace.specs.Slices.{Slices, storeAll, Translated, leaving}
 use Rattle.trace.specs.Answers.{translationReply, translatedOf}
 use Rattle.trace.specs.declared.Refusal.{Refusal}

@@ -20,7 +20,6 @@ use Rattle.numbers.specs.declared.NumberToken.{NumberToken}
 use Rattle.numbers.specs.declared.NumberToken.the-variants.{Value, NoNumber}
 use Rattle.numbers.proofs.Decimal.{number-printed}
 use Rattle.numbers.proofs.Tokens.{each-some, by-token}
-use Rattle.plan.specs.Plans.{LEVELS}
 use Rattle.plan.specs.Events.{event, kindOf, haltOperand}
 use Rattle.plan.specs.Reading.{letterOf, LAST-LOCATION}
 use Rattle.plan.specs.declared.Access.{Access}
@@ -28,7 +27,7 @@ use Rattle.plan.specs.declared.Letter.{Letter}
 use Rattle.plan.specs.declared.Letter.the-variants.{Leaf, Joint, Other}
 use Rattle.plan.specs.declared.Operator.{Operator}
 use Rattle.plan.specs.declared.Operator.the-variants.{Series, Parallel}
-use Rattle.plan_reader.specs.Machine.{Frame, frame, State, state, ofChild, halting, joining, Step, stuck, goes, entered, enter, leave, stepBy, stepOf}
+use Rattle.plan_reader.specs.Machine.{Frame, frame, State, state, ofChild, halting, joining, goes, entered, enter, leave, stepBy, stepOf}
 use Rattle.plan_reader.specs.Machine.{STACK-CELLS, frameIn, framesIn, stateOf, Written, writtenOf, moved, turned, closed, opened, pushed, mark, adds}
 use Rattle.plan_reader.specs.Machine.{Stands, Goes, Went, After, AfterLeaf}
 use Rattle.plan_reader.specs.declared.emission.Writer.{Writer}
@@ -139,9 +138,6 @@ module _ (from : Writer) (o : Operator) (b : Slices) (at : ℕ) where
   module _ (parallel : o ≡ Parallel) where
     pub enter-room : Room b (from .count + adds o) → Room b (from .count + 1)
     enter-room r = rw parallel at r
-
-    pub enter-few : from .next + adds o ≤ TASKS → from .next + 1 ≤ TASKS
-    enter-few h = rw parallel at h
 
     pub cells-parallel : (cells cells₁ : List ℕ) → cells₁ ≡ set (set cells (2 * from .depth + 0) (from .actor)) (2 * from .depth + 1) (from .next)
         → cells₁ ≡ pushed o from cells

@@ -1,22 +1,22 @@
 -- OF A PLAN'S TEXT THE MACHINE WRITES THE PLAN'S EVENTS (`plan-runs`, `whole-runs`). Assumes nothing.
-use Prim.Native.Nat.{ℕ, zero, suc, _+_, _≤_, _<_, max}
+use Prim.Native.Nat.{ℕ, suc, _+_, _≤_, _<_}
 use native.Mathlib.Omega.{arith}
-use mathlib.Core.Path.{_≡_, refl, sym, ap, subst, _∙_}
+use mathlib.Core.Path.{_≡_, refl, _∙_}
 use mathlib.Core.List.{List, [], _∷_, _++_, append-nil, append-assoc}
 use lib.ListN.{length}
 use Rattle.trace.specs.Trace.{Event, TASKS, FORK, JOIN, HALT}
 use Rattle.numbers.specs.Decimal.{decimal}
 use Rattle.numbers.proofs.Decimal.{first, number-whole}
-use Rattle.plan.specs.Plans.{Plan, leaf, pair, print, accessLetter, operatorLetter, InRange, depth, LEVELS, IsPlan}
+use Rattle.plan.specs.Plans.{Plan, leaf, pair, print, accessLetter, operatorLetter, InRange, depth, LEVELS}
 use Rattle.plan.specs.Events.{event, kindOf, haltOperand, forks, eventsFrom, eventsOf}
 use Rattle.plan.specs.Reading.{LAST-LOCATION, letterOf}
 use Rattle.plan.specs.declared.Operator.{Operator}
 use Rattle.plan.specs.declared.Operator.the-variants.{Series, Parallel}
 use Rattle.plan.specs.declared.Letter.the-variants.{Other}
 use Rattle.plan.proofs.Spelling.{letter-access, letter-operator}
-use Rattle.plan.proofs.Stops.{Ends, leaf-ends, pair-ends, joined}
+use Rattle.plan.proofs.Stops.{Ends, leaf-ends, joined}
 use Rattle.plan.proofs.Accepts.{ends-other, ends-last, comma-no-digit, close-no-digit}
-use Rattle.plan_reader.specs.Machine.{Frame, State, state, frame, halting, joining, stepOf, goes, Runs, ended, steps}
+use Rattle.plan_reader.specs.Machine.{Frame, state, frame, stepOf, goes, Runs, ended, steps}
 
 comma-other : letterOf 44 ≡ Other
 unfolding letterOf

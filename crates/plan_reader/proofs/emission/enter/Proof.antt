@@ -1,6 +1,6 @@
 -- `enter` meets its contract: S adds nothing, and P a fork. Assumes nothing.
 use borrow.Author.Needs.{needs}
-use Rattle.plan_reader.proofs.Stepping.{enter-series, cells-series, enter-room, enter-few, cells-parallel, enter-parallel}
+use Rattle.plan_reader.proofs.Stepping.{enter-series, cells-series, enter-room, cells-parallel, enter-parallel}
 use Rattle.plan_reader.proofs.emission.enter.Statement.{statement}
 use Rattle.plan_reader.proofs.emission.enter.Tie as tie
 
