@@ -12,11 +12,11 @@ use lib.ListN.{length, getD}
 use borrow.Author.Tests.{eq-eqb, ne-eqb}
 use Rattle.trace.specs.Trace.{Trace, traceOf, READ, WRITE, SUM, isAccess, LOCATIONS}
 use Rattle.trace.specs.Orders.{orThis}
-use Rattle.trace.specs.Kinds.{indexOf}
+use Rattle.kinds.specs.Kinds.{indexOf}
 use Rattle.trace.specs.Search.{leastBelow, greatestBelow, countBelow}
 use Rattle.trace.proofs.Tests.{either, same-or-not}
 use Rattle.trace.proofs.Lists.{orThis-failed}
-use Rattle.trace.proofs.EventKinds.{index-few, index-apart}
+use Rattle.kinds.proofs.ByNumber.{index-few, index-apart}
 use Rattle.trace.proofs.Counts.{count-le, count-hit, count-miss}
 use Rattle.cards.specs.Cards.{accesses, touches, orNowhere, cardOf}
 use Rattle.cards.specs.Tally.{FIRST, LAST, countsOf, earlier, touchedIn, Touchable, cellOf, Tallied, untasked, Tallyable, positionIn, cardIn}

@@ -6,8 +6,8 @@ use mathlib.Core.Logic.{_≢_}
 use native.Mathlib.Omega.{arith}
 use lib.ListN.{length, getD, set, length-set}
 use lib.Seq.{getD-set-same, getD-set-other}
-use Rattle.trace.specs.Kinds.{indexOf}
-use Rattle.trace.proofs.EventKinds.{index-few}
+use Rattle.kinds.specs.Kinds.{indexOf}
+use Rattle.kinds.proofs.ByNumber.{index-few}
 use Rattle.cards.specs.Tally.{FIRST, LAST, countsOf, earlier, touchedIn, Touchable}
 
 module _ (c : List ℕ) (kind l at : ℕ) (t : Touchable c kind l at) where

@@ -7,7 +7,7 @@ use mathlib.Core.Option.{Option, none, some}
 use lib.Dec.{eqb}
 use lib.ListN.{length, getD, set}
 use Rattle.trace.specs.Trace.{Trace, traceOf, READ, WRITE, SUM, isAccess, LOCATIONS, MAX-EVENTS}
-use Rattle.trace.specs.Kinds.{indexOf}
+use Rattle.kinds.specs.Kinds.{indexOf}
 use Rattle.trace.specs.Search.{leastBelow, greatestBelow, countBelow}
 use Rattle.trace.specs.Outcome.{Reply, says, refused, Verdict, clean, race, Outcome}
 use Rattle.cells.specs.Cells.{zeroed}

@@ -54,7 +54,7 @@ fn counts_of(kind: u8) -> usize
     requires { ⌜ isAccess kind ≡ true ⌝ }
     ensures { λ r. ⌜ (r ≡ countsOf kind) × (r + LOCATIONS ≤ TALLY-CELLS) ⌝ }
 {
-    READS + LOCATIONS * trace::index_of(kind)
+    READS + LOCATIONS * kinds::index_of(kind)
 }
 
 // The cell of the first position after an access at `at`.
@@ -83,7 +83,7 @@ fn tally(kinds: &[u8], operands: &[u16], ws: &mut [u16])
 {
     let mut i = 0;
     while i < kinds.len() {
-        if trace::is_access(kinds[i]) {
+        if kinds::is_access(kinds[i]) {
             touch(ws, kinds[i], operands[i], i as u16);
         }
         i += 1;

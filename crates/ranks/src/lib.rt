@@ -102,7 +102,7 @@ fn open_after(kind: u8, current: u16) -> u16
     requires { ⌜ (current < SEGMENTS) × (isKind kind ≡ true) ⌝ }
     ensures { λ r. ⌜ r ≡ cond (isAccess kind) current (suc current) ⌝ }
 {
-    current + trace::is_move(kind) as u16
+    current + kinds::is_move(kind) as u16
 }
 
 // The segment of an event of this kind.
@@ -146,7 +146,7 @@ fn take(
     if row != 0 {
         return row;
     }
-    if trace::is_move(kind) {
+    if kinds::is_move(kind) {
         open_next(ws, line, kind, current);
     }
     0
@@ -248,7 +248,7 @@ fn leading(kinds: &[u8], ws: &[u16], count: usize, events: usize) -> usize
     if events == 0 {
         return 0;
     }
-    if !trace::is_access(kinds[0]) {
+    if !kinds::is_access(kinds[0]) {
         return 0;
     }
     if count < 2 {

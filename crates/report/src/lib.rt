@@ -15,10 +15,10 @@ fn conflicts(kind: u8, other: u8) -> bool
     requires { ⌜ isAccess other ≡ true ⌝ }
     ensures { λ r. ⌜ r ≡ kindsConflict kind other ⌝ }
 {
-    if !trace::is_access(kind) {
+    if !kinds::is_access(kind) {
         return false;
     }
-    trace::is_conflict(kind, other)
+    kinds::is_conflict(kind, other)
 }
 
 // Whether event p, by its number, reaches the later event e.

@@ -1,5 +1,5 @@
 -- The tables hold the largest numbers: what one event changes in them, and that they tell whether an access races. Assumes nothing.
-use Prim.Native.Nat.{ℕ, suc, max, _+_, _-_, _*_, _/_, _%_, _<_, _≤_}
+use Prim.Native.Nat.{ℕ, suc, max, _+_, _-_, _*_, _<_, _≤_}
 use mathlib.Core.Path.{_≡_, refl, sym, _∙_}
 use mathlib.Core.Bool.{true, false, true≢false}
 use mathlib.Core.List.{List}
@@ -18,30 +18,30 @@ use Rattle.scan.specs.Tables.{FOR-READS, FOR-SUMS, TABLES, firstHeld, se
 -- ---- what an access is held against, kind by kind
 
 held-read : (c : List ℕ) (l : ℕ) → heldAgainst c READ l ≡ getD c (FOR-READS + l) 0
-unfolding heldAgainst
+unfolding heldAgainst conflicting
 held-read c l = omega arith
 
 held-write : (c : List ℕ) (l : ℕ) → heldAgainst c WRITE l ≡ max (getD c (FOR-SUMS + l) 0) (getD c (FOR-READS + l) 0)
-unfolding heldAgainst
+unfolding heldAgainst conflicting
 held-write c l = refl
 
 held-sum : (c : List ℕ) (l : ℕ) → heldAgainst c SUM l ≡ getD c (FOR-SUMS + l) 0
-unfolding heldAgainst
+unfolding heldAgainst conflicting
 held-sum c l = omega arith
 
 -- ---- the cells of an access that is kept, kind by kind
 
 module _ (c : List ℕ) (o x : ℕ) where
   kept-read : keptIn c READ o x ≡ storedIn c FOR-SUMS FOR-SUMS o x
-  unfolding keptIn
+  unfolding keptIn conflicting
   kept-read = refl
 
   kept-write : keptIn c WRITE o x ≡ storedIn c FOR-SUMS FOR-READS o x
-  unfolding keptIn
+  unfolding keptIn conflicting
   kept-write = refl
 
   kept-sum : keptIn c SUM o x ≡ storedIn c FOR-READS FOR-READS o x
-  unfolding keptIn
+  unfolding keptIn conflicting
   kept-sum = refl
 
   pub kept-long : (j : ℕ) → length (keptIn c j o x) ≡ length c
@@ -99,16 +99,17 @@ module _ (c : List ℕ) (o x : ℕ) where
 
 -- ---- what the functions return and leave
 
--- The tables by the kinds' numbers.
-pub first-is : (k : ℕ) → isAccess k ≡ true → (FOR-READS + LOCATIONS * (k % 2) ≡ firstHeld k) × (FOR-READS + LOCATIONS * (k % 2) ≤ FOR-SUMS)
-first-is k access =
-    either (test-access k .0 access) (λ e. rw e (refl, omega arith))
-    (λ b. either b (λ e. rw e (refl, omega arith)) (λ e. rw e (refl, omega arith)))
+-- The first table of a read or a write, by a product.
+module _ (r w : ℕ) (read : r ≡ firstHeld READ) (write : w ≡ firstHeld WRITE) where
+  pub quick-order : r ≤ w
+  unfolding conflicting
+  quick-order = omega arith
 
-pub second-is : (k : ℕ) → isAccess k ≡ true → (FOR-READS + LOCATIONS * (k / 4) ≡ secondHeld k) × (FOR-READS + LOCATIONS * (k / 4) ≤ FOR-SUMS)
-second-is k access =
-    either (test-access k .0 access) (λ e. rw e (refl, omega arith))
-    (λ b. either b (λ e. rw e (refl, omega arith)) (λ e. rw e (refl, omega arith)))
+  pub quick-is : (k : ℕ) → isAccess k ≡ true → k ≢ SUM → (r + (w - r) * k ≡ firstHeld k) × (r + (w - r) * k ≤ FOR-SUMS)
+  unfolding conflicting
+  quick-is k access other =
+      rw (read, write)
+      (either (test-access k .0 access) (λ e. rw e (refl, omega arith)) (λ b. either b (λ e. rw e (refl, omega arith)) (λ e. absurd (other e))))
 
 module _ (c : List ℕ) (k l x : ℕ) where
   pub held-back :
@@ -128,24 +129,25 @@ module _ (c : List ℕ) (k l x : ℕ) where
       (omega arith, cc (one, two, stored))
 
   -- A read or a write where no sum has been kept.
-  module _ (ready : Testable c k l × (k ≢ SUM)) where
-    pub quick-back : (b : ℕ) → x < b → b ≡ getD c (FOR-READS + LOCATIONS * k + l) 0 → TestSays c c k l x false
+  module _ (ready : Testable c k l × (k ≢ SUM)) (table : ℕ) (is : table ≡ firstHeld k) where
+    pub quick-back : (b : ℕ) → x < b → b ≡ getD c (table + l) 0 → TestSays c c k l x false
+    unfolding conflicting
     quick-back b low read =
-        either (test-access k .0 (ready .0 .access)) (λ e. let is = rw e at read in rw e (omega (arith, held-read c l), refl))
+        either (test-access k .0 (ready .0 .access)) (λ e. let at-k = rw (is, e) at read in rw e (omega (arith, held-read c l), refl))
         (λ o.
-        either o (λ e. let is = rw e at read in rw e (omega (arith, held-write c l), refl)) (λ e. absurd (ready .1 e)))
+        either o (λ e. let at-k = rw (is, e) at read in rw e (omega (arith, held-write c l), refl)) (λ e. absurd (ready .1 e)))
 
     pub quick-passed :
-        (b : ℕ) (d : List ℕ) → Calm c → b ≤ x → b ≡ getD c (FOR-READS + LOCATIONS * k + l) 0
-        → d ≡ storedIn c FOR-SUMS (FOR-SUMS - (FOR-READS + LOCATIONS * k)) l x → TestSays c d k l x true
+        (b : ℕ) (d : List ℕ) → Calm c → b ≤ x → b ≡ getD c (table + l) 0 → d ≡ storedIn c FOR-SUMS (FOR-SUMS - table) l x → TestSays c d k l x true
+    unfolding conflicting
     quick-passed b d calm high read stored =
         either (test-access k .0 (ready .0 .access))
-        (λ e. let is = rw e at read in rw e (omega (arith, held-read c l), (rw e at stored) ∙ sym (kept-read c l x)))
+        (λ e. let at-k = rw (is, e) at read in rw e (omega (arith, held-read c l), (rw (is, e) at stored) ∙ sym (kept-read c l x)))
         (λ o.
         either o
         (λ e.
-        let is = rw e at read in
-        rw e (omega (arith, held-write c l, calm l (ready .0 .location)), (rw e at stored) ∙ sym (kept-write c l x)))
+        let at-k = rw (is, e) at read in
+        rw e (omega (arith, held-write c l, calm l (ready .0 .location)), (rw (is, e) at stored) ∙ sym (kept-write c l x)))
         (λ e. absurd (ready .1 e)))
 
 -- The cell v of those that conflict with kind k becomes v′ where an access of kind j with number x is kept.

@@ -3,9 +3,9 @@ use Prim.Native.Nat.{ℕ, max, _+_, _-_, _<_, _≤_}
 use mathlib.Core.Path.{_≡_}
 use mathlib.Core.Bool.{Bool, true, false, cond}
 use mathlib.Core.List.{List}
-use lib.Dec.{eqb}
 use lib.ListN.{length, getD, set}
 use Rattle.trace.specs.Trace.{READ, SUM, isAccess, LOCATIONS}
+use Rattle.trace.specs.Race.{conflicting}
 
 -- For each location the largest number of an earlier write or sum, which a read is held against,
 abbrev pub FOR-READS : ℕ
@@ -21,10 +21,10 @@ TABLES = 2048
 
 -- The two tables that an access of kind k is held against: FOR-READS twice for a read, both for a write, FOR-SUMS twice for a sum.
 abbrev pub firstHeld : ℕ → ℕ
-firstHeld k = cond (eqb k READ) FOR-READS FOR-SUMS
+firstHeld k = cond (conflicting k READ) FOR-SUMS FOR-READS
 
 abbrev pub secondHeld : ℕ → ℕ
-secondHeld k = cond (eqb k SUM) FOR-SUMS FOR-READS
+secondHeld k = cond (conflicting k SUM) FOR-READS FOR-SUMS
 
 -- The largest number that an access of kind k to location l is held against.
 unfoldable pub heldAgainst : List ℕ → ℕ → ℕ → ℕ

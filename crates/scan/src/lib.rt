@@ -6,11 +6,15 @@ ghost use mathlib.Core.Bool.{true};
 ghost use mathlib.Core.Logic.{_≢_};
 ghost use Prim.Native.Nat.{_≤_};
 ghost use Rattle.trace.specs.Trace.{SUM, isAccess};
+ghost use Rattle.trace.specs.Race.{conflicting};
 ghost use Rattle.cells.specs.Cells.{SameFrom};
 ghost use Rattle.ranks.specs.States.{ownNumber};
 ghost use Rattle.scan.specs.Numbered.{Numbered, FirstRace};
 ghost use Rattle.scan.specs.Tables.{FOR-SUMS, TABLES, firstHeld, secondHeld, Testable, Keepable, Calm, storedIn, TestSays};
 use trace::FORK;
+use trace::READ;
+use trace::SUM;
+use trace::WRITE;
 
 // For each location the largest number of an earlier write or sum, which a read is held against, and of an earlier read or write, which a sum is held against;
 // 0 where there is none. A write is held against both.
@@ -21,22 +25,52 @@ const FOR_SUMS: usize = 1024;
 // The cells of both.
 const TABLES: usize = 2048;
 
-const LOCATIONS: usize = trace::LOCATIONS as usize;
+// kinds::is_conflict, with the first kind named in each case: so its entry of the table is looked up where this is compiled. Looked up in the loop it would
+// cost a quarter of the judge's time.
+fn is_conflict(kind: u8, other: u8) -> bool
+    requires { ⌜ isAccess kind ≡ true ⌝ }
+    requires { ⌜ isAccess other ≡ true ⌝ }
+    ensures { λ r. ⌜ r ≡ conflicting kind other ⌝ }
+{
+    match kind {
+        READ => kinds::is_conflict(READ, other),
+        WRITE => kinds::is_conflict(WRITE, other),
+        _ => kinds::is_conflict(SUM, other),
+    }
+}
 
-// The two tables that an access is held against: FOR_READS twice for a read, which is kind 0, both for a write, kind 1, FOR_SUMS twice for a sum, kind 5. They
-// are computed, since no processor can predict the kind. The two that an access is kept in are found from the other end.
+// The two tables that an access is held against: FOR_SUMS, where the reads are, if it conflicts with a read, and FOR_READS, where the sums are, if it conflicts
+// with a sum. What conflicts with either conflicts with writes, which are in both. A read and a sum have one table twice, since no processor can predict the
+// kind. The two that an access is kept in are found from the other end.
 fn first_held(kind: u8) -> usize
     requires { ⌜ isAccess kind ≡ true ⌝ }
     ensures { λ r. ⌜ (r ≡ firstHeld kind) × (r ≤ FOR-SUMS) ⌝ }
 {
-    FOR_READS + LOCATIONS * (kind % 2) as usize
+    if is_conflict(kind, READ) {
+        return FOR_SUMS;
+    }
+    FOR_READS
 }
 
 fn second_held(kind: u8) -> usize
     requires { ⌜ isAccess kind ≡ true ⌝ }
     ensures { λ r. ⌜ (r ≡ secondHeld kind) × (r ≤ FOR-SUMS) ⌝ }
 {
-    FOR_READS + LOCATIONS * (kind / 4) as usize
+    if is_conflict(kind, SUM) {
+        return FOR_READS;
+    }
+    FOR_SUMS
+}
+
+// first_held of a read, which is kind 0, or of a write, kind 1. A product costs less than a choice.
+fn quick_held(kind: u8) -> usize
+    requires { ⌜ isAccess kind ≡ true ⌝ }
+    requires { ⌜ kind ≢ SUM ⌝ }
+    ensures { λ r. ⌜ (r ≡ firstHeld kind) × (r ≤ FOR-SUMS) ⌝ }
+{
+    let of_read = first_held(READ);
+    let of_write = first_held(WRITE);
+    of_read + (of_write - of_read) * kind as usize
 }
 
 // An access with number x that passed is one of those that later ones are held against: in two tables, or twice in one, which costs less than a branch.
@@ -73,7 +107,7 @@ fn quick_passes(ws: &mut [u16], kind: u8, location: u16, x: u16) -> bool
     requires { ⌜ Calm (now ws) ⌝ }
     ensures { λ r. ⌜ TestSays (now (ws .entry)) (now (ws .exit)) kind location x r ⌝ }
 {
-    let table = FOR_READS + LOCATIONS * kind as usize;
+    let table = quick_held(kind);
     if x < cells::cell(ws, table, location) {
         return false;
     }
@@ -105,7 +139,7 @@ pub fn first_race(
             if !quick_passes(ws, kind, operands[t], number) {
                 return t;
             }
-        } else if trace::is_move(kind) {
+        } else if kinds::is_move(kind) {
             current += 1;
             number = ranks::open_number(ws, current);
         } else {

@@ -33,10 +33,10 @@ fn mark(kinds: &[u8], tasks: &[u16], operands: &[u16], ws: &mut [u16])
         return;
     }
     ws[NUMBER] = 1;
-    let mut previous = trace::is_access(kinds[0]);
+    let mut previous = kinds::is_access(kinds[0]);
     let mut p = 1;
     while p < kinds.len() {
-        let access = trace::is_access(kinds[p]);
+        let access = kinds::is_access(kinds[p]);
         ws[NUMBER + p] = stop_at(previous & access, tasks, operands, p);
         previous = access;
         p += 1;

@@ -1,6 +1,9 @@
-// Each pair of kinds of access, in each way in which two accesses can stand to each other: which of them race is told by hand.
+// Each pair of kinds of access, in each way in which two accesses can stand to each other, and behind each third kind: which of them race, and which reach the
+// other, is told by hand.
 use crate::CLEAN;
+use crate::NO;
 use crate::RACE;
+use crate::YES;
 use crate::chains::Laid;
 use crate::chains::make_laid;
 use crate::large::put_one;
@@ -57,10 +60,10 @@ fn clean(events: usize, links: usize) -> Laid {
     make_laid(events, make_reply(CLEAN, 0, 0, links))
 }
 
-// Of an unordered pair: event 1 and the last, at t.
-fn unordered(t: usize, pair: Pair) -> Laid {
+// Of an unordered pair: event s and the last, at t.
+fn unordered(s: usize, t: usize, pair: Pair) -> Laid {
     if pair.case == RACE {
-        return make_laid(more(t), make_reply(RACE, 1, t, 0));
+        return make_laid(more(t), make_reply(RACE, s, t, 0));
     }
     clean(more(t), 0)
 }
@@ -81,7 +84,7 @@ fn by_fork(events: &mut [u16], pair: Pair) -> Laid {
     clean(3, 0)
 }
 
-// In all other ways task 1 has the one, and halts.
+// In the ways below task 1 has the one, and halts.
 fn lay_child(events: &mut [u16], pair: Pair) {
     put_one(events, 0, 0, FORK, 1);
     put_one(events, 1, 1, pair.one, 5);
@@ -107,14 +110,14 @@ fn by_sibling_join(events: &mut [u16], pair: Pair) -> Laid {
 fn child_and_parent(events: &mut [u16], pair: Pair) -> Laid {
     lay_child(events, pair);
     put_one(events, 3, 0, pair.other, 5);
-    unordered(3, pair)
+    unordered(1, 3, pair)
 }
 
 fn two_children(events: &mut [u16], pair: Pair) -> Laid {
     lay_child(events, pair);
     put_one(events, 3, 0, FORK, 2);
     put_one(events, 4, 2, pair.other, 5);
-    unordered(4, pair)
+    unordered(1, 4, pair)
 }
 
 fn two_locations(events: &mut [u16], pair: Pair) -> Laid {
@@ -123,7 +126,26 @@ fn two_locations(events: &mut [u16], pair: Pair) -> Laid {
     clean(4, 0)
 }
 
-fn lay_way(events: &mut [u16], pair: Pair, way: usize) -> Laid {
+// What the earlier access's task did before it: an access of another kind to the same location, in `before` with the later one. The first that conflicts is
+// named.
+fn behind_another(events: &mut [u16], before: Pair, pair: Pair) -> Laid {
+    put_one(events, 0, 0, FORK, 1);
+    put_one(events, 1, 1, before.one, 5);
+    put_one(events, 2, 1, pair.one, 5);
+    put_one(events, 3, 1, HALT, 0);
+    put_one(events, 4, 0, pair.other, 5);
+    if before.case == RACE {
+        return unordered(1, 4, before);
+    }
+    unordered(2, 4, pair)
+}
+
+// The ways with nothing but the pair: those in which the one reaches the other, then those in which it does not.
+const ORDERED: usize = 4;
+
+const ALONE: usize = 7;
+
+fn lay_alone(events: &mut [u16], pair: Pair, way: usize) -> Laid {
     match way {
         0 => in_one_task(events, pair),
         1 => by_fork(events, pair),
@@ -135,14 +157,39 @@ fn lay_way(events: &mut [u16], pair: Pair, way: usize) -> Laid {
     }
 }
 
-const WAYS: usize = 7;
+// These, and one for each kind that there can be before.
+const WAYS: usize = 10;
 
 // How many traces so many pairs make.
 pub fn traces(pairs: usize) -> usize {
     (pairs % 65536) * WAYS
 }
 
-// Lays out one of the traces.
+// Lays out one of the traces. The rows of the table are in threes: with the later access of row `row` those are `row % 3`, one for each kind before it.
 pub fn lay_pair(events: &mut [u16], cells: &[u16], i: usize) -> Laid {
-    lay_way(events, pair_at(cells, i / WAYS), i % WAYS)
+    let row = i / WAYS;
+    let way = i % WAYS;
+    let pair = pair_at(cells, row);
+    if way < ALONE {
+        return lay_alone(events, pair, way);
+    }
+    let before = pair_at(cells, (way - ALONE) * 3 + row % 3);
+    behind_another(events, before, pair)
+}
+
+// Where the earlier access of the pair stands. The later one is the last event.
+pub fn earlier_at(i: usize) -> usize {
+    match i % WAYS {
+        0 => 0,
+        1 => 0,
+        7 => 2,
+        8 => 2,
+        9 => 2,
+        _ => 1,
+    }
+}
+
+// Whether it reaches the later one.
+pub fn reach(i: usize) -> usize {
+    if i % WAYS < ORDERED { YES } else { NO }
 }

@@ -1,6 +1,9 @@
-// Each pair of kinds of access, ordered and not: both judges must answer as is told.
+// Each pair of kinds of access, ordered and not: both judges and both ordering calls must answer as is told.
 use crate::lines::judges;
+use crate::lines::reaches;
+use test_calls::conflicts::earlier_at;
 use test_calls::conflicts::lay_pair;
+use test_calls::conflicts::reach;
 use test_calls::conflicts::read_pairs;
 use test_calls::conflicts::traces;
 use test_outcome::Outcome;
@@ -10,7 +13,9 @@ use test_outcome::with;
 // Each trace is laid over the one before it.
 fn run_agrees(cells: &[u16], events: &mut [u16], i: usize, memory: &mut [usize]) -> bool {
     let run = lay_pair(events, cells, i);
-    judges(events, run.events, run.want, memory)
+    let answered = judges(events, run.events, run.want, memory);
+    let asked = reaches(events, run.events, earlier_at(i), reach(i), memory);
+    answered & asked
 }
 
 // The table has so many pairs. None at all is a fault.

@@ -40,7 +40,7 @@ fn orders(events: &[u16], n: usize, p: usize, want: Reply, memory: &mut [usize])
 }
 
 // Whether they say yes, or no.
-fn reaches(events: &[u16], n: usize, p: usize, case: usize, memory: &mut [usize]) -> bool {
+pub fn reaches(events: &[u16], n: usize, p: usize, case: usize, memory: &mut [usize]) -> bool {
     orders(events, n, p, make_reply(case, 0, 0, 0), memory)
 }
 

@@ -4,12 +4,12 @@ use Prim.Native.Nat.{ℕ, _<_}
 use native.Mathlib.Omega.{arith}
 use mathlib.Core.Path.{_≡_, refl, sym, _∙_}
 use mathlib.Core.Logic.{_⊎_, inl, inr}
-use mathlib.Core.Bool.{true, not, _||_}
-use lib.Dec.{eqb}
+use mathlib.Core.Bool.{Bool, true, false}
+use mathlib.Core.List.{List, [], _∷_, map}
 use Rattle.trace.specs.Trace.{Trace, READ, WRITE, SUM, isAccess}
 use Rattle.trace.specs.Race.{conflicting, Conflict}
 use Rattle.trace.specs.Orders.{writes, sums}
-use Rattle.trace.proofs.Tests.{Tests, either, test-and, test-or, test-eq}
+use Rattle.trace.proofs.Tests.{Tests, tests-map, tests-unique, either, test-and, test-or, test-eq}
 use Rattle.trace.proofs.EventKinds.{test-access}
 use Rattle.trace.proofs.OrderFacts.{test-writes, test-sums}
 
@@ -23,18 +23,29 @@ test-conflicting j k =
     test-or _ _ (test-or _ _ (test-eq j WRITE) (test-eq k WRITE))
     (test-or _ _ (test-and _ _ (test-eq j READ) (test-eq k SUM)) (test-and _ _ (test-eq j SUM) (test-eq k READ)))
 
--- So accesses of two kinds conflict, and so do two writes: the test of the code. All nine pairs are computed.
-pub conflict-by-kinds : (j k : ℕ) → isAccess j ≡ true → isAccess k ≡ true → (not (eqb j k) || eqb j WRITE) ≡ conflicting j k
-unfolding conflicting
-conflict-by-kinds j k first second =
-    either (test-access j .0 first) (λ e. rw e (with READ (refl, refl, refl)))
-    (λ b. either b (λ e. rw e (with WRITE (refl, refl, refl))) (λ e. rw e (with SUM (refl, refl, refl))))
-  where
-    Says : ℕ → ℕ → Type 0
-    Says j k = (not (eqb j k) || eqb j WRITE) ≡ conflicting j k
+-- THE TABLE of the nine pairs, computed: a row for each kind of access and in it a column for each, yes exactly where the two conflict.
+abbrev pub accesses : List ℕ
+accesses = READ ∷ WRITE ∷ SUM ∷ []
 
-    with : (j : ℕ) → Says j READ × Says j WRITE × Says j SUM → Says j k
-    with j says = either (test-access k .0 second) (λ e. rw e (says .0)) (λ b. either b (λ e. rw e (says .1)) (λ e. rw e (says .2)))
+abbrev pub conflictTable : List (List Bool)
+conflictTable =
+    (false ∷ true ∷ true ∷ [])
+    ∷ (true ∷ true ∷ true ∷ [])
+    ∷ (true ∷ true ∷ false ∷ [])
+    ∷ []
+
+pub table-rule : conflictTable ≡ map (λ j. map (conflicting j) accesses) accesses
+unfolding conflicting
+table-rule = refl
+
+-- Which of the two is named first makes no difference.
+pub conflicting-sym : (j k : ℕ) → conflicting j k ≡ conflicting k j
+conflicting-sym j k =
+    tests-unique _ _ (test-conflicting j k)
+    (tests-map (turned k j) (turned j k) (test-conflicting k j))
+  where
+    turned : (j k : ℕ) → ConflictingKinds j k → ConflictingKinds k j
+    turned j k kinds = either kinds (λ w. inl (either w (λ e. inr e) (λ e. inl e))) (λ m. inr (either m (λ h. inr (h .1, h .0)) (λ h. inl (h .1, h .0))))
 
 -- Event p writes the location l or adds to it.
 abbrev pub Changes : Trace → ℕ → ℕ → Type 0
@@ -57,10 +68,7 @@ module _ (tr : Trace) (n : ℕ) where
         first-access = c .second-access;
         second-access = c .first-access;
         one-location = sym (c .one-location);
-        kinds-conflict =
-            test-conflicting (tr .kind q) (tr .kind p) .1
-            (either (test-conflicting (tr .kind p) (tr .kind q) .0 (c .kinds-conflict)) (λ w. inl (either w (λ e. inr e) (λ e. inl e)))
-            (λ m. inr (either m (λ h. inr (h .1, h .0)) (λ h. inl (h .1, h .0)))));
+        kinds-conflict = conflicting-sym (tr .kind q) (tr .kind p) ∙ c .kinds-conflict;
       }
 
   -- A write conflicts with each access of its location.

@@ -1,4 +1,4 @@
--- What a reader must believe, in the order in which to read it. `Kinds`, the last one, is for the code alone.
+-- What a reader must believe, in the order in which to read it.
 pub mod Trace
 pub mod Lent
 pub mod Line
@@ -13,4 +13,3 @@ pub mod Slices
 pub mod Answers
 pub mod Runs
 pub mod Refusals
-pub mod Kinds

@@ -1,6 +1,6 @@
 -- `cards::counts_of` meets its contract. Assumes nothing.
 use borrow.Author.Needs.{needs}
-use Rattle.trace.proofs.EventKinds.{index-few}
+use Rattle.kinds.proofs.ByNumber.{index-few}
 use Rattle.cards.proofs.counts_of.Statement.{statement}
 use Rattle.cards.proofs.counts_of.Tie as tie
 

@@ -5,7 +5,7 @@ use mathlib.Core.Logic.{⊎-elim}
 use native.Mathlib.Omega.{arith}
 use borrow.Author.Needs.{needs}
 use borrow.Author.Tests.{not-true, not-false}
-use Rattle.trace.proofs.EventKinds.{access-below}
+use Rattle.kinds.proofs.ByNumber.{access-below}
 use Rattle.scan.proofs.Scanning.{Scanning, scan-begin, scan-answer, scan-end, scan-few, scan-room, scan-quick, scan-named, scan-next, scan-move}
 use Rattle.scan.proofs.Scanning.{scan-testable, scan-quick-kept, scan-kept, scan-race}
 use Rattle.scan.proofs.first_race.Statement.{statement}

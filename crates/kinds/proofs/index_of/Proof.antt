@@ -1,9 +1,9 @@
--- `trace::index_of` meets its contract. Assumes nothing.
+-- `kinds::index_of` meets its contract. Assumes nothing.
 use borrow.Author.Tests.{ne-eqb}
 use Rattle.trace.specs.Trace.{SUM}
-use Rattle.trace.specs.Kinds.{indexOf}
-use Rattle.trace.proofs.index_of.Statement.{statement}
-use Rattle.trace.proofs.index_of.Tie as tie
+use Rattle.kinds.specs.Kinds.{indexOf}
+use Rattle.kinds.proofs.index_of.Statement.{statement}
+use Rattle.kinds.proofs.index_of.Tie as tie
 
 returns : tie.Need-returns
 unfolding indexOf
