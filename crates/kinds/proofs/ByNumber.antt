@@ -1,5 +1,5 @@
--- Kinds by their numbers, as the code tells them apart, and the accesses counted up from 0. Assumes nothing.
-use Prim.Native.Nat.{ℕ, _<_, _≤_}
+-- Kinds by their numbers, as the code tells them apart, and the accessKinds counted up from 0. Assumes nothing.
+use Prim.Native.Nat.{ℕ, _<_}
 use mathlib.Core.Path.{_≡_, sym, ap, _∙_}
 use mathlib.Core.Bool.{true, not, _&&_, _||_}
 use mathlib.Core.Logic.{_≢_, inl, inr}
@@ -10,7 +10,7 @@ use borrow.Author.Tests.{lt-ltb, leb-true}
 use Rattle.trace.specs.Trace.{FORK, HALT, READ, WRITE, SUM, isKind, isAccess}
 use Rattle.trace.proofs.Tests.{either, last-or-below, tests-map, tests-unique, test-and, test-or, test-not, test-eq, test-lt, test-le}
 use Rattle.trace.proofs.EventKinds.{test-access}
-use Rattle.trace.proofs.Conflicts.{accesses}
+use Rattle.trace.proofs.Conflicts.{accessKinds}
 use Rattle.kinds.specs.Kinds.{indexOf}
 
 -- Reads and writes are the kinds before the fork's.
@@ -43,10 +43,10 @@ move-by-number k named =
     either a (λ e. omega arith) (λ b. either b (λ e. omega arith) (λ e. omega arith)))
     (test-not _ (test-access k)))
 
--- ---- the accesses counted up from 0
+-- ---- the accessKinds counted up from 0
 
--- Each stands at its index in `accesses`,
-pub at-index : (k : ℕ) → isAccess k ≡ true → getD accesses (indexOf k) 0 ≡ k
+-- Each stands at its index in `accessKinds`,
+pub at-index : (k : ℕ) → isAccess k ≡ true → getD accessKinds (indexOf k) 0 ≡ k
 unfolding indexOf
 at-index k a = either (test-access k .0 a) (λ e. rw e) (λ b. either b (λ e. rw e) (λ e. rw e))
 
@@ -57,4 +57,4 @@ index-few k a = either (test-access k .0 a) (λ e. rw e (omega arith)) (λ b. ei
 
 -- so two of different kinds have different ones.
 pub index-apart : (j k : ℕ) → isAccess j ≡ true → isAccess k ≡ true → j ≢ k → indexOf j ≢ indexOf k
-index-apart j k a b other same = other (sym (at-index j a) ∙ ap (λ i. getD accesses i 0) same ∙ at-index k b)
+index-apart j k a b other same = other (sym (at-index j a) ∙ ap (λ i. getD accessKinds i 0) same ∙ at-index k b)

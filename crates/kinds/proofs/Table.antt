@@ -7,7 +7,7 @@ use native.Mathlib.Omega.{arith}
 use lib.ListN.{length, getD}
 use Rattle.trace.specs.Trace.{isAccess}
 use Rattle.trace.specs.Race.{conflicting}
-use Rattle.trace.proofs.Conflicts.{accesses, conflictTable, table-rule, conflicting-sym}
+use Rattle.trace.proofs.Conflicts.{accessKinds, conflictTable, table-rule, conflicting-sym}
 use Rattle.kinds.specs.Kinds.{indexOf}
 use Rattle.kinds.proofs.ByNumber.{at-index, index-few}
 
@@ -24,8 +24,8 @@ entry j k = getD (getD conflictTable (indexOf j) []) (indexOf k) false
 pub entry-right : (j k : ℕ) → isAccess j ≡ true → isAccess k ≡ true → entry j k ≡ conflicting j k
 entry-right j k first second =
     ap (λ rows. getD (getD rows (indexOf j) []) (indexOf k) false) table-rule
-    ∙ ap (λ row. getD row (indexOf k) false) (made-at (λ i. map (conflicting i) accesses) accesses (indexOf j) [] (index-few j first))
-    ∙ made-at (conflicting (getD accesses (indexOf j) 0)) accesses (indexOf k) false (index-few k second)
+    ∙ ap (λ row. getD row (indexOf k) false) (made-at (λ i. map (conflicting i) accessKinds) accessKinds (indexOf j) [] (index-few j first))
+    ∙ made-at (conflicting (getD accessKinds (indexOf j) 0)) accessKinds (indexOf k) false (index-few k second)
     ∙ rw (at-index j first, at-index k second)
 
 pub entry-symmetric : (j k : ℕ) → isAccess j ≡ true → isAccess k ≡ true → entry j k ≡ entry k j

@@ -24,8 +24,8 @@ test-conflicting j k =
     (test-or _ _ (test-and _ _ (test-eq j READ) (test-eq k SUM)) (test-and _ _ (test-eq j SUM) (test-eq k READ)))
 
 -- THE TABLE of the nine pairs, computed: a row for each kind of access and in it a column for each, yes exactly where the two conflict.
-abbrev pub accesses : List ℕ
-accesses = READ ∷ WRITE ∷ SUM ∷ []
+abbrev pub accessKinds : List ℕ
+accessKinds = READ ∷ WRITE ∷ SUM ∷ []
 
 abbrev pub conflictTable : List (List Bool)
 conflictTable =
@@ -34,15 +34,14 @@ conflictTable =
     ∷ (true ∷ true ∷ false ∷ [])
     ∷ []
 
-pub table-rule : conflictTable ≡ map (λ j. map (conflicting j) accesses) accesses
+pub table-rule : conflictTable ≡ map (λ j. map (conflicting j) accessKinds) accessKinds
 unfolding conflicting
 table-rule = refl
 
 -- Which of the two is named first makes no difference.
 pub conflicting-sym : (j k : ℕ) → conflicting j k ≡ conflicting k j
 conflicting-sym j k =
-    tests-unique _ _ (test-conflicting j k)
-    (tests-map (turned k j) (turned j k) (test-conflicting k j))
+    tests-unique _ _ (test-conflicting j k) (tests-map (turned k j) (turned j k) (test-conflicting k j))
   where
     turned : (j k : ℕ) → ConflictingKinds j k → ConflictingKinds k j
     turned j k kinds = either kinds (λ w. inl (either w (λ e. inr e) (λ e. inl e))) (λ m. inr (either m (λ h. inr (h .1, h .0)) (λ h. inl (h .1, h .0))))

@@ -1,13 +1,13 @@
 -- The kinds of events, told apart. Every proof that asks whether an event is an access asks by `isAccess` and uses these laws. Assumes nothing.
-use Prim.Native.Nat.{ℕ, _<_, _≤_}
+use Prim.Native.Nat.{ℕ}
 use mathlib.Core.Path.{_≡_, refl, sym, ap, _∙_}
-use mathlib.Core.Bool.{true, false, not, _&&_, _||_, true≢false}
+use mathlib.Core.Bool.{true, false, true≢false}
 use mathlib.Core.Logic.{_⊎_, _≢_, inl, inr}
 use native.Mathlib.Omega.{arith}
-use lib.Dec.{eqb, leb, ltb}
-use borrow.Author.Tests.{ne-eqb, lt-ltb, le-ltb, eqb-false, leb-true}
+use lib.Dec.{eqb}
+use borrow.Author.Tests.{eqb-false, leb-true}
 use Rattle.trace.specs.Trace.{FORK, JOIN, HALT, READ, WRITE, SUM, isKind, isAccess}
-use Rattle.trace.proofs.Tests.{either, last-or-below, Tests, tests-map, tests-fails, tests-unique, test-and, test-or, test-not, test-eq, test-lt, test-le}
+use Rattle.trace.proofs.Tests.{either, Tests, tests-fails, test-or, test-eq}
 
 -- An access is a read, a write or a sum.
 abbrev pub AccessKind : ℕ → Type 0

@@ -1,5 +1,5 @@
-//! Sums: each pair of kinds with an order and without, counters that many tasks add to, and wrong
-//! judges of them, each of which must show.
+//! Sums: each pair of kinds with an order and without, and behind each third kind; counters that
+//! many tasks add to; and wrong judges of them, each of which must show.
 
 use crate::compare::{known, Test};
 use crate::meaning;
@@ -13,9 +13,11 @@ use racejudge_bench::trace::*;
 /// How many wrong judges were noticed. One that is not ends the test.
 pub fn all(test: &mut Test) -> usize {
     let pairs = pairs();
-    for (trace, said) in &pairs {
+    for (trace, said) in pairs.iter().chain(&triples()) {
         known(test.both(trace, 2), *said, trace);
+        every_order(test, trace);
     }
+    told_orders(test);
     counters(test);
     full_counters(test);
     wrong_judges(&pairs)
@@ -62,11 +64,16 @@ pub const CONFLICTING: [(u8, u8); 7] = [
     (WRITE, SUM),
 ];
 
-/// The nine pairs of kinds in each shape, to one location and to two.
-fn pairs() -> Vec<Known> {
+/// Each shape with each of the nine pairs of kinds.
+fn shaped() -> impl Iterator<Item = (Shape, (u8, u8))> {
     let kinds = ACCESSES.into_iter().flat_map(|one| ACCESSES.map(|other| (one, other)));
-    let shaped = kinds.flat_map(|kinds| SHAPES.map(|shape| (shape, kinds)));
-    shaped.flat_map(|(shape, kinds)| [5, 6].map(|location| pair(shape, kinds, location))).collect()
+    kinds.flat_map(|kinds| SHAPES.map(|shape| (shape, kinds)))
+}
+
+/// The two accesses to one location and to two.
+fn pairs() -> Vec<Known> {
+    let both = |(shape, kinds)| [5, 6].map(|location| pair(shape, kinds, location));
+    shaped().flat_map(both).collect()
 }
 
 fn pair((before, task, unordered): Shape, (one, other): (u8, u8), location: u16) -> Known {
@@ -76,6 +83,39 @@ fn pair((before, task, unordered): Shape, (one, other): (u8, u8), location: u16)
     let conflict = location == 5 && CONFLICTING.contains(&(one, other));
     let partner = unordered.filter(|_| conflict);
     (Trace::of(&events), partner.map_or(Answer::Clean, |s| Answer::Race(s, t)))
+}
+
+/// The nine pairs, unordered, where the task of the earlier access has made another just before it:
+/// the partner is the first of the two that conflicts.
+fn triples() -> Vec<Known> {
+    let kinds = ACCESSES.into_iter().flat_map(|before| ACCESSES.map(|one| [before, one]));
+    kinds.flat_map(|earlier| ACCESSES.map(|other| triple(earlier, other))).collect()
+}
+
+fn triple(earlier: [u8; 2], other: u8) -> Known {
+    let [before, one] = earlier.map(|kind| (1, kind, 5));
+    let events = [(0, FORK, 1), before, one, (1, HALT, 0), (0, other, 5)];
+    let partner = earlier.iter().position(|&kind| CONFLICTING.contains(&(kind, other)));
+    (Trace::of(&events), partner.map_or(Answer::Clean, |i| Answer::Race(1 + i, 4)))
+}
+
+fn every_order(test: &mut Test, trace: &Trace) {
+    for p in 0..trace.len() {
+        for q in 0..trace.len() {
+            test.ordering(trace, p, q);
+        }
+    }
+}
+
+/// Paths do not ask for kinds: whether the earlier access reaches the later one is told by the shape.
+fn told_orders(test: &mut Test) {
+    for (shape, (one, other)) in shaped() {
+        let (before, _, unordered) = shape;
+        let s = before(one).iter().rposition(|&(_, kind, _)| kind == one).expect("an access");
+        let told = if unordered.is_some() { Ordering::No } else { Ordering::Yes };
+        let (trace, _) = pair(shape, (one, other), 5);
+        known(test.ordering(&trace, s, trace.len() - 1), told, &trace);
+    }
 }
 
 /// Tasks that add to a counter beside each other, of which the last ones are joined, and then an
