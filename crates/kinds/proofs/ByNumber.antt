@@ -1,4 +1,4 @@
--- Kinds by their numbers, as the code tells them apart, and the accessKinds counted up from 0. Assumes nothing.
+-- Kinds by their numbers, as the code tells them apart, and the accesses counted up from 0. Assumes nothing.
 use Prim.Native.Nat.{ℕ, _<_}
 use mathlib.Core.Path.{_≡_, sym, ap, _∙_}
 use mathlib.Core.Bool.{true, not, _&&_, _||_}
@@ -43,7 +43,7 @@ move-by-number k named =
     either a (λ e. omega arith) (λ b. either b (λ e. omega arith) (λ e. omega arith)))
     (test-not _ (test-access k)))
 
--- ---- the accessKinds counted up from 0
+-- ---- the accesses counted up from 0
 
 -- Each stands at its index in `accessKinds`,
 pub at-index : (k : ℕ) → isAccess k ≡ true → getD accessKinds (indexOf k) 0 ≡ k

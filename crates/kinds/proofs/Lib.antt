@@ -1,3 +1,3 @@
 -- Laws of kinds by their numbers, and the rule of the table of conflicts.
 pub mod ByNumber
-pub mod Table
+pub mod ConflictTable

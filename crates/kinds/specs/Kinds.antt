@@ -1,4 +1,5 @@
--- The kinds of access counted up from 0, for code that keeps one table for each. Assumes nothing.
+-- The kinds of access counted up from 0: the row and the column of each in the table of conflicts, and its place where code keeps a table for each.
+-- Assumes nothing.
 use Prim.Native.Nat.{ℕ}
 use mathlib.Core.Bool.{cond}
 use lib.Dec.{eqb}

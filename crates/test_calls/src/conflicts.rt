@@ -16,6 +16,7 @@ use test_cells::plus;
 use test_samples::events::FORK;
 use test_samples::events::HALT;
 use test_samples::events::JOIN;
+use test_samples::events::SUM;
 
 const CELLS: usize = 3;
 
@@ -140,10 +141,20 @@ fn behind_another(events: &mut [u16], before: Pair, pair: Pair) -> Laid {
     unordered(2, 4, pair)
 }
 
-// The ways with nothing but the pair: those in which the one reaches the other, then those in which it does not.
+// Behind a sum of another location: from the first sum on a judge may go another way.
+fn behind_a_sum(events: &mut [u16], pair: Pair) -> Laid {
+    put_one(events, 0, 0, FORK, 1);
+    put_one(events, 1, 1, SUM, 6);
+    put_one(events, 2, 1, pair.one, 5);
+    put_one(events, 3, 1, HALT, 0);
+    put_one(events, 4, 0, pair.other, 5);
+    unordered(2, 4, pair)
+}
+
+// The ways with no other access of the location: those in which the one reaches the other, then those in which it does not.
 const ORDERED: usize = 4;
 
-const ALONE: usize = 7;
+const ALONE: usize = 8;
 
 fn lay_alone(events: &mut [u16], pair: Pair, way: usize) -> Laid {
     match way {
@@ -153,12 +164,13 @@ fn lay_alone(events: &mut [u16], pair: Pair, way: usize) -> Laid {
         3 => by_sibling_join(events, pair),
         4 => child_and_parent(events, pair),
         5 => two_children(events, pair),
-        _ => two_locations(events, pair),
+        6 => two_locations(events, pair),
+        _ => behind_a_sum(events, pair),
     }
 }
 
 // These, and one for each kind that there can be before.
-const WAYS: usize = 10;
+const WAYS: usize = 11;
 
 // How many traces so many pairs make.
 pub fn traces(pairs: usize) -> usize {
@@ -182,9 +194,7 @@ pub fn earlier_at(i: usize) -> usize {
     match i % WAYS {
         0 => 0,
         1 => 0,
-        7 => 2,
-        8 => 2,
-        9 => 2,
+        7..=10 => 2,
         _ => 1,
     }
 }

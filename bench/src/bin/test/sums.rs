@@ -30,7 +30,7 @@ type Known = (Trace, Answer);
 /// this one races with, if there is no order between the two.
 type Shape = (fn(u8) -> Vec<Event>, u16, Option<usize>);
 
-const SHAPES: [Shape; 9] = [
+const SHAPES: [Shape; 10] = [
     // The same task, a child, a grandchild.
     (|one| vec![(0, one, 5)], 0, None),
     (|one| vec![(0, one, 5), (0, FORK, 1)], 1, None),
@@ -51,6 +51,8 @@ const SHAPES: [Shape; 9] = [
     ),
     // The parent, who has accessed the location in the same way before.
     (|one| vec![(0, one, 5), (0, FORK, 1), (1, one, 5), (1, HALT, 0)], 0, Some(2)),
+    // Behind a sum of another location: from the first sum on a judge may go another way.
+    (|one| vec![(0, FORK, 1), (1, SUM, 7), (1, one, 5), (1, HALT, 0)], 0, Some(2)),
 ];
 
 /// The pairs of kinds that conflict, as the owner names them.
@@ -111,7 +113,8 @@ fn every_order(test: &mut Test, trace: &Trace) {
 fn told_orders(test: &mut Test) {
     for (shape, (one, other)) in shaped() {
         let (before, _, unordered) = shape;
-        let s = before(one).iter().rposition(|&(_, kind, _)| kind == one).expect("an access");
+        let is_one = |&(_, kind, at): &Event| (kind, at) == (one, 5);
+        let s = before(one).iter().rposition(is_one).expect("an access");
         let told = if unordered.is_some() { Ordering::No } else { Ordering::Yes };
         let (trace, _) = pair(shape, (one, other), 5);
         known(test.ordering(&trace, s, trace.len() - 1), told, &trace);
@@ -173,7 +176,7 @@ fn full_counters(test: &mut Test) {
 }
 
 /// Wrong judges: for each what conflicts that should not, or does not that should.
-const WRONG: [(&str, Conflict); 9] = [
+const WRONG: [(&str, Conflict); 12] = [
     ("a sum conflicts with a sum", |s, t| conflict(s, t) || (s, t) == (SUM, SUM)),
     ("a read does not conflict with an earlier sum", |s, t| {
         conflict(s, t) && (s, t) != (SUM, READ)
@@ -191,6 +194,13 @@ const WRONG: [(&str, Conflict); 9] = [
     ("a sum is a write", |s, t| s != READ || t != READ),
     ("a sum is a read", |s, t| s == WRITE || t == WRITE),
     ("a read conflicts with a read", |s, t| conflict(s, t) || (s, t) == (READ, READ)),
+    ("a read does not conflict with an earlier write", |s, t| {
+        conflict(s, t) && (s, t) != (WRITE, READ)
+    }),
+    ("a write does not conflict with an earlier read", |s, t| {
+        conflict(s, t) && (s, t) != (READ, WRITE)
+    }),
+    ("a write does not conflict with a write", |s, t| conflict(s, t) && (s, t) != (WRITE, WRITE)),
 ];
 
 /// Each gives a wrong answer to some of the pairs, and one that does not mean what it says.

@@ -1,7 +1,7 @@
 -- `kinds::is_conflict` meets its contract. Assumes nothing.
 use borrow.Author.Needs.{needs}
 use Rattle.kinds.proofs.ByNumber.{index-few}
-use Rattle.kinds.proofs.Table.{entry-right}
+use Rattle.kinds.proofs.ConflictTable.{entry-right}
 use Rattle.kinds.proofs.is_conflict.Statement.{statement}
 use Rattle.kinds.proofs.is_conflict.Tie as tie
 

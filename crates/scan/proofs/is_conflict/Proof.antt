@@ -21,8 +21,7 @@ returns-2 c = cc
 returns-3 : tie.Need-returns-3
 returns-3 c =
     let rest = c .before .match .rest in
-    let sum = no-other _ (c .before .before .pre .0) (rest .0 .1) (rest .1) in
-    cc
+    rw (no-other _ (c .before .before .pre .0) (rest .0 .1) (rest .1)) (c .is-conflict3 .ensures)
 
 pub is-conflict-spec : {M : Type 1} → statement M
 is-conflict-spec =
