@@ -130,23 +130,30 @@ module _ (c : List ℕ) (k l x : ℕ) where
 
   -- A read or a write where no sum has been kept.
   module _ (ready : Testable c k l × (k ≢ SUM)) (table : ℕ) (is : table ≡ firstHeld k) where
-    pub quick-back : (b : ℕ) → x < b → b ≡ getD c (table + l) 0 → TestSays c c k l x false
+    of-read : k ≡ READ → getD c (table + l) 0 ≡ getD c (FOR-READS + l) 0
     unfolding conflicting
+    of-read e = rw (is, e)
+
+    of-write : k ≡ WRITE → getD c (table + l) 0 ≡ getD c (FOR-SUMS + l) 0
+    unfolding conflicting
+    of-write e = rw (is, e)
+
+    pub quick-back : (b : ℕ) → x < b → b ≡ getD c (table + l) 0 → TestSays c c k l x false
     quick-back b low read =
-        either (test-access k .0 (ready .0 .access)) (λ e. let at-k = rw (is, e) at read in rw e (omega (arith, held-read c l), refl))
+        either (test-access k .0 (ready .0 .access)) (λ e. let asked = of-read e in rw e (omega (arith, held-read c l), refl))
         (λ o.
-        either o (λ e. let at-k = rw (is, e) at read in rw e (omega (arith, held-write c l), refl)) (λ e. absurd (ready .1 e)))
+        either o (λ e. let asked = of-write e in rw e (omega (arith, held-write c l), refl)) (λ e. absurd (ready .1 e)))
 
     pub quick-passed :
         (b : ℕ) (d : List ℕ) → Calm c → b ≤ x → b ≡ getD c (table + l) 0 → d ≡ storedIn c FOR-SUMS (FOR-SUMS - table) l x → TestSays c d k l x true
     unfolding conflicting
     quick-passed b d calm high read stored =
         either (test-access k .0 (ready .0 .access))
-        (λ e. let at-k = rw (is, e) at read in rw e (omega (arith, held-read c l), (rw (is, e) at stored) ∙ sym (kept-read c l x)))
+        (λ e. let asked = of-read e in rw e (omega (arith, held-read c l), (rw (is, e) at stored) ∙ sym (kept-read c l x)))
         (λ o.
         either o
         (λ e.
-        let at-k = rw (is, e) at read in
+        let asked = of-write e in
         rw e (omega (arith, held-write c l, calm l (ready .0 .location)), (rw (is, e) at stored) ∙ sym (kept-write c l x)))
         (λ e. absurd (ready .1 e)))
 
