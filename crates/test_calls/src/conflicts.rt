@@ -177,7 +177,8 @@ pub fn traces(pairs: usize) -> usize {
     (pairs % 65536) * WAYS
 }
 
-// Lays out one of the traces. The rows of the table are in threes: with the later access of row `row` those are `row % 3`, one for each kind before it.
+// Lays out one of the traces. The table has three rows for each kind of the earlier access, one for each of the later: so `before` has the kind of the way and
+// the later access of the pair.
 pub fn lay_pair(events: &mut [u16], cells: &[u16], i: usize) -> Laid {
     let row = i / WAYS;
     let way = i % WAYS;
