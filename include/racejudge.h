@@ -1,11 +1,18 @@
 /* The fork-join race judge: a trace of one run of a fork-join program, judged for data races.
- * Five calls: racejudge_translate (text to a trace), racejudge_plan (a plan to a trace),
- * racejudge_judge, racejudge_judge_cards (the same, with a card for each location), racejudge_ordering.
+ * Six calls: racejudge_translate (text to a trace), racejudge_plan (a plan to a trace),
+ * racejudge_convert (a trace of version 4 to one of this version), racejudge_judge,
+ * racejudge_judge_cards (the same, with a card for each location), racejudge_ordering.
  *
- * VERSION 4. racejudge_plan is new, and so are its rows 17 to 19. All else is as it was. Version 3 had
- * brought kind 5, a sum, which version 2 refused by row 5, and cards that count sums: for version 2 a
- * caller lent records of 8 bytes, and since lends records of 10. Version 2 had brought the third value
- * that both judges store, `links`: for version 1 a caller lent them two cells.
+ * VERSION 5. The operand of a halt names the task that resumes, and row 12 asks for that; up to version
+ * 4 it had to be 0. racejudge_convert is new. A caller of version 4 has two things to do: the recorder
+ * must write the task that resumes, and each trace that is stored goes once through racejudge_convert,
+ * also one that was translated from a text or a plan. Texts and plans themselves stay as they are:
+ * the halts that are put in now name the task that resumes. All else is as it was.
+ *
+ * Version 4 had brought racejudge_plan and its rows 17 to 19. Version 3 had brought kind 5, a sum, which
+ * version 2 refused by row 5, and cards that count sums: for version 2 a caller lent records of 8 bytes,
+ * and since lends records of 10. Version 2 had brought the third value that both judges store, `links`:
+ * for version 1 a caller lent them two cells.
  *
  * Link libcapi.a, which `rt staticlib capi` writes, for x86-64 Linux. It needs only memset of the C
  * library. Every call takes any contents and any lengths: nothing is required of the numbers in the
@@ -22,15 +29,17 @@
  * A TRACE is three slices of one length. Entry p of each makes event p; positions count from 0.
  *   kinds     RACEJUDGE_READ .. RACEJUDGE_SUM
  *   tasks     the task that acts, 0 to 1,023
- *   operands  read, write and sum: the location, 0 to 1,023; fork and join: the task, 0 to 1,023; halt: 0
+ *   operands  read, write and sum: the location, 0 to 1,023; fork and join: the task, 0 to 1,023;
+ *             halt: the task that resumes, 0 to 1,023, or 0 where task 0 itself halts
  * At most RACEJUDGE_MAX_EVENTS events. Reads, writes and sums are ACCESSES. A sum adds to what the
  * location holds, as to a counter: the order of sums among themselves does not matter.
  *
  * THE RULES. The run is serial. At the start the line of tasks holds task 0 alone, and it runs. Only the
  * running task acts. A fork puts the child, whose number is new, immediately left of its parent; the
- * parent pauses and the child runs. A halt ends the running task: it stays in the line, and its paused
- * parent runs again. After the halt of task 0 no event follows. A join names the task immediately left
- * of the running one, which leaves the line. A trace may end anywhere.
+ * parent pauses and the child runs. A halt ends the running task, which stays in the line. Its paused
+ * parent RESUMES: it runs again, and the halt names it. Task 0 has no parent: its halt names 0, and no
+ * event follows. A join names the task immediately left of the running one, which leaves the line. A
+ * trace may end anywhere.
  *
  * ARCS lead from each event to the same task's next event, from a fork to the child's first event, and
  * from a task's halt to the join that names it. p REACHES q if p = q or a chain of arcs leads from p to
@@ -43,15 +52,16 @@
  * tasks, under the top of the larger; at equal size the joiner's top stays on top. No link changes
  * otherwise. From no task to the top of its tree are there more than RACEJUDGE_MAX_LINKS links.
  *
- * THE WORKSPACE has at least RACEJUDGE_WORKSPACE + n cells for n events, with any contents. After the
- * refusals 1 to 4 and 16 it is unchanged. After every other answer its first RACEJUDGE_WORKSPACE + n
- * cells are 0 and the rest is unchanged.
+ * THE WORKSPACE of both judges, the ordering call and the conversion has at least RACEJUDGE_WORKSPACE + n
+ * cells for n events, with any contents. After the refusals 1 to 4 and 16 it is unchanged. After every
+ * other answer its first RACEJUDGE_WORKSPACE + n cells are 0 and the rest is unchanged.
  *
  * A REFUSAL has the number of the first condition that holds, and a position: that of the event for
  * 5 to 12, that of the line for 14 and 15, that of the byte for 17 and 18, else 0. The checks go 1 to
- * 4, then 16; then for each event 5, 6, 7 and the one for its kind; 13 last. Rows 14 and 15 are the
- * translation's, and are all that it has. Rows 17 to 19 are all that a plan has: of 17 and 18 the first
- * that is met, from the first byte on, and 19 once the whole plan is read.
+ * 4, then 16; then for each event 5, 6, 7 and the one for its kind; 13 last. The conversion has rows 1
+ * to 3 alone. Rows 14 and 15 are the translation's, and are all that it has. Rows 17 to 19 are all that a
+ * plan has: of 17 and 18 the first that is met, from the first byte on, and 19 once the whole plan is
+ * read.
  *    1  the three slices differ in length
  *    2  more than 32,768 events
  *    3  the workspace is too short
@@ -63,7 +73,7 @@
  *    9  the forked number is above 1,023
  *   10  the forked number was used before
  *   11  the joined task is not the left neighbour of the actor
- *   12  the operand of the halt is not 0
+ *   12  the operand of the halt is not the task that resumes, or not 0 for task 0's own halt
  *   13  p or q is not below the number of events (the ordering call only)
  *   14  a line, counted from 0, is not of the text form
  *   15  with that line, counted from 0, the text makes more than 2,048 events
@@ -80,8 +90,8 @@
  *   Ta|join(Tb)|c   task a joins task b
  * Numbers are decimal, 0 to 65,535, with no leading zero; c is a source line and is not used. Nothing
  * else is taken: no blank, no carriage return, no empty line. Sums have no lines, and so no text makes
- * one. Nor have halts: where a paused task acts again, the halts of the tasks above it come first.
- * The first 53,274 bytes of a text decide.
+ * one. Nor have halts: where a paused task acts again, the halts of the tasks above it come first, each
+ * with the next lower task as its operand. The first 53,274 bytes of a text decide.
  *
  * A PLAN is a leaf, or two plans one after the other (series) or side by side (parallel):
  *   rL, wL, sL   a leaf: reads, writes or adds to location L, decimal, 0 to 1,023, no leading zero
@@ -89,10 +99,10 @@
  *   P(G1,G2)     G1 beside G2
  * Nothing else is taken: no blank, no line feed, not at the end either. Each S or P opens a level, and
  * at most RACEJUDGE_MAX_DEPTH may be open; a lone leaf has depth 0. Task 0 runs the plan. A leaf makes
- * one event. P makes a fork, after which the child runs G1 and halts; then the task that forked it runs
- * G2 and joins it. Tasks are numbered 1, 2, 3 in the order of the forks. The last event of the plan is
- * the last of the trace: task 0 does not halt. Of two leaves the first reaches the second exactly if
- * the operator where they meet is S and the first is in its left operand.
+ * one event. P makes a fork, after which the child runs G1 and halts; then the task that forked it, which
+ * the halt names, runs G2 and joins it. Tasks are numbered 1, 2, 3 in the order of the forks. The last
+ * event of the plan is the last of the trace: task 0 does not halt. Of two leaves the first reaches the
+ * second exactly if the operator where they meet is S and the first is in its left operand.
  */
 #ifndef RACEJUDGE_H
 #define RACEJUDGE_H
@@ -107,7 +117,7 @@ extern "C" {
 /* Kinds of event. */
 enum { RACEJUDGE_READ, RACEJUDGE_WRITE, RACEJUDGE_FORK, RACEJUDGE_JOIN, RACEJUDGE_HALT, RACEJUDGE_SUM };
 
-#define RACEJUDGE_VERSION 4
+#define RACEJUDGE_VERSION 5
 
 #define RACEJUDGE_MAX_EVENTS 32768
 #define RACEJUDGE_MAX_LINKS 10
@@ -138,7 +148,10 @@ enum { RACEJUDGE_NO = 0, RACEJUDGE_YES = 1 };
 /* What racejudge_translate returns, and of these racejudge_plan the first. */
 enum { RACEJUDGE_TRANSLATED = 0, RACEJUDGE_SHORT = 3 };
 
-/* What all five return for a refusal. */
+/* What racejudge_convert returns. */
+enum { RACEJUDGE_CONVERTED = 0 };
+
+/* What all six return for a refusal. */
 enum { RACEJUDGE_REFUSED = 2 };
 
 /* Judges the whole trace. Returns, and stores in values[0] to values[2]:
@@ -183,6 +196,19 @@ uint64_t racejudge_ordering(const uint8_t *kinds, size_t kinds_len, const uint16
                             size_t tasks_len, const uint16_t *operands, size_t operands_len,
                             uint16_t *workspace, size_t workspace_len, size_t p, size_t q,
                             uint64_t values[2]);
+
+/* Brings a trace over that was stored for version 4 or older, where each halt had the operand 0. Sets the
+ * operand of each halt before the first event that breaks a rule to the task that resumes, where row 12
+ * is read as it was: the operand of the halt is not 0. Changes nothing else: not that event, though it be
+ * a halt, and no halt behind it. Races do not stop it. Returns, and stores in values[0] and values[1]:
+ *   RACEJUDGE_CONVERTED   0, 0
+ *   RACEJUDGE_REFUSED     number, 0     number is 1, 2 or 3; the operands are unchanged
+ * What racejudge_judge of version 4 called clean or a race it now calls the same, with the same
+ * positions. A trace that is converted already stays as it is: the first of its halts whose operand is
+ * not 0 breaks that row. */
+uint64_t racejudge_convert(const uint8_t *kinds, size_t kinds_len, const uint16_t *tasks,
+                           size_t tasks_len, uint16_t *operands, size_t operands_len,
+                           uint16_t *workspace, size_t workspace_len, uint64_t values[2]);
 
 /* Translates a text to a trace. Returns, and stores in values[0] and values[1]:
  *   RACEJUDGE_TRANSLATED   n, 0             the n events stand at the start of the three slices

@@ -1,10 +1,10 @@
-//! The all-ancestors judge, written from document 01 and the owner's sentences on sums: for every
-//! event the set of all events that reach it, as bits, made from the arcs of document 01's three
-//! sentences. Slow and plain.
+//! The all-ancestors judge, written from document 01 and the owner's sentences on sums and on halts:
+//! for every event the set of all events that reach it, as bits, made from the arcs of document 01's
+//! three sentences. Slow and plain.
 
 use crate::cards::cards;
 use crate::joins;
-use crate::line::Line;
+use crate::line::{names_resumed, Halts, Line};
 use crate::trace::*;
 
 /// Everything that a call leaves behind.
@@ -50,9 +50,9 @@ struct Walk {
 }
 
 impl Walk {
-    fn start() -> Self {
+    fn start(halts: Halts) -> Self {
         Walk {
-            line: Line::start(),
+            line: Line::start(halts),
             last_event: [None; TASKS],
             made_by: [None; TASKS],
             halted_at: [None; TASKS],
@@ -93,20 +93,21 @@ pub fn conflict(s: u8, t: u8) -> bool {
 /// rows are kept from call to call.
 pub struct Ancestors {
     conflict: Conflict,
+    halts: Halts,
     stride: usize,
     rows: Vec<u64>,
 }
 
 impl Default for Ancestors {
     fn default() -> Self {
-        Ancestors::by(conflict)
+        Ancestors::by(conflict, names_resumed)
     }
 }
 
 impl Ancestors {
-    /// A judge for whom these kinds conflict.
-    pub fn by(conflict: Conflict) -> Self {
-        Ancestors { conflict, stride: 0, rows: Vec::new() }
+    /// A judge for whom these kinds conflict, and who has this row 12.
+    pub fn by(conflict: Conflict, halts: Halts) -> Self {
+        Ancestors { conflict, halts, stride: 0, rows: Vec::new() }
     }
 
     fn make_room(&mut self, events: usize) {
@@ -138,7 +139,7 @@ impl Ancestors {
     /// Events in position order: each held to the rules, then to the race test.
     pub fn answer(&mut self, trace: &Trace) -> Answer {
         self.make_room(trace.len());
-        let mut walk = Walk::start();
+        let mut walk = Walk::start(self.halts);
         let mut accesses: Vec<Vec<usize>> = vec![Vec::new(); LOCATIONS];
         for t in 0..trace.len() {
             match walk.step(trace, t) {
@@ -161,7 +162,7 @@ impl Ancestors {
     /// The whole trace must keep the line rules; races do not stop it. Row 13 comes last.
     fn ordering_answer(&mut self, trace: &Trace, p: usize, q: usize) -> Ordering {
         self.make_room(trace.len());
-        let mut walk = Walk::start();
+        let mut walk = Walk::start(self.halts);
         for t in 0..trace.len() {
             match walk.step(trace, t) {
                 Ok(starts) => self.store(t, starts),
@@ -228,13 +229,13 @@ impl Ancestors {
 
 /// The starts of the arcs into each event of a trace that keeps the rules.
 pub fn arcs(trace: &Trace) -> Vec<[Option<usize>; 2]> {
-    let mut walk = Walk::start();
+    let mut walk = Walk::start(names_resumed);
     let step = |p: usize| walk.step(trace, p).expect("the rules are kept");
     (0..trace.len()).map(step).collect()
 }
 
 /// Rows 1 to 3.
-fn size_row(trace: &Trace, workspace: usize) -> Option<usize> {
+pub fn size_row(trace: &Trace, workspace: usize) -> Option<usize> {
     let n = trace.kinds.len();
     if trace.tasks.len() != n || trace.operands.len() != n {
         return Some(1);

@@ -67,9 +67,9 @@ impl Builder {
     }
 
     pub fn halt(&mut self) {
-        let task = self.running();
-        self.trace.push(task, HALT, 0);
-        self.active.pop();
+        let task = self.active.pop().expect("task 0 has not halted");
+        let resumed = self.active.last().copied().unwrap_or(0);
+        self.trace.push(task, HALT, resumed);
         self.left.push(task);
     }
 

@@ -1,8 +1,8 @@
-//! The linked judges and readers: the library, by its bindings, and the peers in C. This module alone
-//! knows the form in which an answer comes back: all others compare a `Told` with that of the answer
-//! that they want, or turn it into one.
+//! The linked judges, readers and conversions: the library, by its bindings, and the peers in C. This
+//! module alone knows the form in which an answer comes back: all others compare a `Told` with that of
+//! the answer that they want, or turn it into one.
 
-use crate::trace::{Answer, Card, Ordering, Trace, Translation, LOCATIONS, SUM, WORKSPACE};
+use crate::trace::*;
 pub use racejudge::raw::Told;
 use racejudge::raw::{self, JudgeCall, OrderingCall};
 /// A card, as it stands in a lent slice.
@@ -16,6 +16,7 @@ racejudge::foreign!(judge fn unionfind_judge);
 racejudge::foreign!(ordering fn twoorders_ordering);
 racejudge::foreign!(ordering fn unionfind_ordering);
 racejudge::foreign!(translate fn planread_plan);
+racejudge::foreign!(convert fn resume_convert);
 #[cfg(before)]
 racejudge::foreign!(judge fn before_judge);
 #[cfg(before)]
@@ -51,6 +52,15 @@ impl From<Ordering> for Told<2> {
             Ordering::No => told(raw::NO, [0, 0]),
             Ordering::Yes => told(raw::YES, [0, 0]),
             Ordering::Refused(number, position) => told(raw::REFUSED, [number, position]),
+        }
+    }
+}
+
+impl From<Conversion> for Told<2> {
+    fn from(answer: Conversion) -> Self {
+        match answer {
+            Conversion::Done => told(raw::CONVERTED, [0, 0]),
+            Conversion::Refused(number) => told(raw::REFUSED, [number, 0]),
         }
     }
 }
@@ -110,8 +120,8 @@ pub const TWO_ORDERS: Judge =
 pub const UNION_FIND: Judge =
     Judge { name: "union-find C", judge: unionfind_judge, ordering: unionfind_ordering };
 
-/// An older judge, where one is linked. Version 1 leaves the third value unset, and 1 and 2 know no
-/// sums.
+/// An older judge, where one is linked. Version 1 leaves the third value unset, 1 and 2 know no sums,
+/// and before version 5 halts name no task.
 #[cfg(before)]
 pub const BEFORE: Option<Judge> =
     Some(Judge { name: "judge before", judge: before_judge, ordering: before_ordering });
@@ -122,8 +132,18 @@ pub const BEFORE: Option<Judge> = None;
 impl Judge {
     /// Whether it takes sums, which it refuses where it is older than they are.
     pub fn knows_sums(&self) -> bool {
-        let trace = Trace::of(&[(0, SUM, 0)]);
-        let told = self.judge(&trace, &mut vec![0; WORKSPACE + 1], &mut [0], &mut [0]);
+        self.takes(&[(0, SUM, 0)])
+    }
+
+    /// Whether a halt names the task that resumes. Where the judge is older than that, it names none.
+    pub fn knows_resumed(&self) -> bool {
+        self.takes(&[(0, FORK, 1), (1, FORK, 2), (2, HALT, 1)])
+    }
+
+    fn takes(&self, events: &[Event]) -> bool {
+        let (trace, n) = (Trace::of(events), events.len());
+        let (mut first, mut second) = (vec![0; n], vec![0; n]);
+        let told = self.judge(&trace, &mut vec![0; WORKSPACE + n], &mut first, &mut second);
         told.code == raw::CLEAN
     }
 
@@ -172,6 +192,45 @@ fn plan_by_hand(text: &[u8], kinds: &mut [u8], tasks: &mut [u16], operands: &mut
             tasks.len(),
             operands.as_mut_ptr(),
             operands.len(),
+            &mut values,
+        )
+    };
+    Told { code, values }
+}
+
+/// Brings a stored trace over, of which it is lent kinds, tasks and operands, and a workspace.
+type Convert = fn(&[u8], &[u16], &mut [u16], &mut [u16]) -> Told<2>;
+
+/// One linked conversion.
+pub struct Converter {
+    pub name: &'static str,
+    pub convert: Convert,
+}
+
+/// The library's.
+pub const CONVERSION: Converter =
+    Converter { name: "the library, conversion", convert: raw::convert };
+
+pub const CONVERSION_C: Converter = Converter { name: "conversion C", convert: convert_by_hand };
+
+fn convert_by_hand(
+    kinds: &[u8],
+    tasks: &[u16],
+    operands: &mut [u16],
+    workspace: &mut [u16],
+) -> Told<2> {
+    let mut values = [u64::MAX; 2];
+    // Safe, as for a judge.
+    let code = unsafe {
+        resume_convert(
+            kinds.as_ptr(),
+            kinds.len(),
+            tasks.as_ptr(),
+            tasks.len(),
+            operands.as_mut_ptr(),
+            operands.len(),
+            workspace.as_mut_ptr(),
+            workspace.len(),
             &mut values,
         )
     };

@@ -1,22 +1,40 @@
-//! The line of tasks and its rules, kept literally as document 01 has them: one list from left
-//! to right, and a stack of the running task over its paused ancestors.
+//! The line of tasks and its rules, kept literally as documents 01 and 02 have them: one list from
+//! left to right, and a stack of the running task over its paused ancestors.
 
 use crate::trace::*;
 
+/// Row 12: whether a halt may have this operand where these tasks are active. The running one is the
+/// last; below it stands the parent that it pauses, and so on.
+pub type Halts = fn(&[u16], u16) -> bool;
+
+/// A halt's operand names the task that resumes; for task 0's own halt it is 0.
+pub fn names_resumed(active: &[u16], operand: u16) -> bool {
+    match active {
+        [.., parent, _] => operand == *parent,
+        _ => operand == 0,
+    }
+}
+
+/// Row 12 as it was before halts named a task.
+pub fn names_nothing(_: &[u16], operand: u16) -> bool {
+    operand == 0
+}
+
 pub struct Line {
+    halts: Halts,
     /// The tasks in the line, from left to right.
     line: Vec<u16>,
-    /// The running task is the last; below it stands the parent that it pauses, and so on.
-    running: Vec<u16>,
+    /// The active tasks: the running one is the last.
+    active: Vec<u16>,
     used: [bool; TASKS],
 }
 
 impl Line {
-    /// At the start the line holds task 0 alone, and it runs.
-    pub fn start() -> Self {
+    /// At the start the line holds task 0 alone, and it runs. Halts are held to this row 12.
+    pub fn start(halts: Halts) -> Self {
         let mut used = [false; TASKS];
         used[0] = true;
-        Line { line: vec![0], running: vec![0], used }
+        Line { halts, line: vec![0], active: vec![0], used }
     }
 
     /// Holds one event to the rules. `Err` is the number of the row that turns it back; nothing
@@ -25,7 +43,7 @@ impl Line {
         if kind >= NO_KIND {
             return Err(5);
         }
-        let Some(&running) = self.running.last() else {
+        let Some(&running) = self.active.last() else {
             return Err(6);
         };
         if task != running {
@@ -57,7 +75,7 @@ impl Line {
         self.used[child as usize] = true;
         let at = self.place(parent);
         self.line.insert(at, child);
-        self.running.push(child);
+        self.active.push(child);
         Ok(())
     }
 
@@ -73,10 +91,10 @@ impl Line {
 
     /// The task stops and stays in the line. Its paused parent runs again.
     fn halt(&mut self, operand: u16) -> Result<(), usize> {
-        if operand != 0 {
+        if !(self.halts)(&self.active, operand) {
             return Err(12);
         }
-        self.running.pop();
+        self.active.pop();
         Ok(())
     }
 

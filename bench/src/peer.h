@@ -1,5 +1,5 @@
-/* What the judges in C share: the names of the calls, a trace, the size checks, and how the judge's
- * answer is handed back. */
+/* What the judges in C share: the names of the calls, a trace, and how the judge's answer is handed
+ * back. */
 
 #ifndef PEER_H
 #define PEER_H
@@ -18,8 +18,6 @@
 /* Whatever the name, the compiler holds the calls to the prototypes of racejudge.h. */
 __typeof__(racejudge_judge) EXPORTED(NAME, judge);
 __typeof__(racejudge_ordering) EXPORTED(NAME, ordering);
-
-enum { WORKSPACE = RACEJUDGE_WORKSPACE };
 
 /* A location has four cells side by side: one for each kind of access, in their row, which tells what
  * an access of that kind conflicts with; the fourth is spare. */
@@ -40,18 +38,6 @@ typedef struct {
     const uint16_t *tasks, *operands;
     size_t n;
 } Trace;
-
-/* Rows 1 to 3, or 0. */
-static uint64_t size_row(size_t n, size_t tasks_len, size_t operands_len, size_t ws_len)
-{
-    if (tasks_len != n || operands_len != n)
-        return 1;
-    if (n > RACEJUDGE_MAX_EVENTS)
-        return 2;
-    if (ws_len < WORKSPACE + n)
-        return 3;
-    return 0;
-}
 
 /* As `say`, for the judge, which has a third value. */
 static inline uint64_t say_judged(uint64_t *values, uint64_t code, uint64_t a, uint64_t b,

@@ -85,6 +85,7 @@ impl Plan {
     }
 
     /// "P forks a task for G1, goes on with G2, then joins. Tasks are numbered 1, 2, 3 in fork order."
+    /// The halt names the task that goes on.
     pub fn trace(&self) -> Trace {
         Trace::of(&self.run(0, 1))
     }
@@ -103,7 +104,7 @@ impl Plan {
                 [
                     vec![(task, FORK, next)],
                     g1.run(next, after(1)),
-                    vec![(next, HALT, 0)],
+                    vec![(next, HALT, task)],
                     g2.run(task, after(1 + g1.forks())),
                     vec![(task, JOIN, next)],
                 ]

@@ -122,7 +122,7 @@ static const uint8_t *write_plan(Writer *w, const uint8_t *at, uint16_t task)
         uint16_t child = ++w->forked;
         put(w, task, FORK, child);
         at = write_plan(w, at + 1, child);
-        put(w, child, HALT, 0);
+        put(w, child, HALT, task);
         at = write_plan(w, at + 1, task);
         put(w, task, JOIN, child);
         return at + 1;

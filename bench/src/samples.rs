@@ -19,6 +19,8 @@ struct Mix {
     care: usize,
     /// Task numbers that are not used.
     reserve: usize,
+    /// So many forks come first, one in the other: then few halts resume task 0.
+    nest: usize,
 }
 
 impl Mix {
@@ -34,6 +36,7 @@ impl Mix {
             sums: rng.one_of(&[0, 0, 50, 50, 90]),
             care,
             reserve: numbers - tasks,
+            nest: rng.one_of(&[0, 0, 1, 3, 9]).min(tasks),
         }
     }
 
@@ -76,6 +79,7 @@ impl Mix {
 pub fn valid(rng: &mut Rng, n: usize, care: usize) -> Trace {
     let mut b = Builder::shuffled(rng);
     let mix = Mix::drawn(rng, b.numbers_left(), care);
+    (0..mix.nest.min(n / 2)).for_each(|_| b.fork());
     for _ in 0..2 * n {
         if b.trace.len() >= n {
             break;
@@ -121,23 +125,47 @@ pub fn damage(rng: &mut Rng, trace: &Trace) -> Trace {
         6 => t.remove(p),
         7 => t.insert(p, t.event(p)),
         8 => t.insert(p, (task, any_kind(rng), rng.cell(1_030))),
-        9 => change_operand(&mut t, p, HALT, 1 + rng.cell(65_535)),
-        10 => change_operand(&mut t, p, JOIN, rng.cell(1_030)),
+        9 => misname(rng, &mut t, p),
+        10 => change_join(rng, &mut t, p),
         _ => follow_the_end(rng, &mut t, p),
     }
     t
 }
 
-/// Gives the first event from p on that has this kind another operand, if there is one.
-fn change_operand(t: &mut Trace, p: usize, kind: u8, operand: u16) {
-    if let Some(at) = t.kinds[p..].iter().position(|&other| other == kind) {
-        t.operands[p + at] = operand;
+/// The first event from p on that has this kind, if there is one.
+fn next_of_kind(t: &Trace, p: usize, kind: u8) -> Option<usize> {
+    (p..t.len()).find(|&at| t.kinds[at] == kind)
+}
+
+/// Gives the first join from p on another operand.
+fn change_join(rng: &mut Rng, t: &mut Trace, p: usize) {
+    if let Some(at) = next_of_kind(t, p, JOIN) {
+        t.operands[at] = rng.cell(1_030);
     }
 }
 
-/// From event p on every task halts, then something follows.
-fn follow_the_end(rng: &mut Rng, t: &mut Trace, p: usize) {
-    t.truncate(p);
+/// Gives the first halt from p on another operand: near the one it has, or one that is easily taken
+/// for the task that resumes.
+pub fn misname(rng: &mut Rng, t: &mut Trace, p: usize) {
+    let Some(at) = next_of_kind(t, p, HALT) else {
+        return;
+    };
+    let (active, operand) = (active_before(t, at), t.operands[at]);
+    t.operands[at] = match rng.below(9) {
+        // The bottom of the stack, too.
+        0 => 0,
+        1 => t.tasks[at],
+        2 | 3 => active.get(rng.below(active.len())).map_or(1, |&task| task),
+        4 => operand.wrapping_add(1),
+        5 => operand.wrapping_sub(1),
+        6 => operand.wrapping_add(TASKS as u16),
+        7 => rng.cell(65_536),
+        _ => u16::MAX,
+    };
+}
+
+/// The running task and its ancestors before event p, task 0 first.
+pub fn active_before(t: &Trace, p: usize) -> Vec<u16> {
     let mut active = vec![0];
     for i in 0..p {
         match t.kinds[i] {
@@ -146,8 +174,15 @@ fn follow_the_end(rng: &mut Rng, t: &mut Trace, p: usize) {
             _ => {}
         }
     }
+    active
+}
+
+/// From event p on every task halts, then something follows.
+fn follow_the_end(rng: &mut Rng, t: &mut Trace, p: usize) {
+    t.truncate(p);
+    let mut active = active_before(t, p);
     while let Some(task) = active.pop() {
-        t.push(task, HALT, 0);
+        t.push(task, HALT, active.last().copied().unwrap_or(0));
     }
     t.push(rng.cell(2), any_kind(rng), rng.cell(2));
 }

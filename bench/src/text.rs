@@ -1,4 +1,5 @@
-//! The text form, written from document 01: a subset of the STD lines, with implied halts.
+//! The text form, written from document 01 and the owner's sentences on halts: a subset of the STD
+//! lines, with implied halts.
 
 use crate::ancestors::Ancestors;
 use crate::trace::*;
@@ -50,6 +51,14 @@ impl Rest<'_> {
     }
 }
 
+/// The tasks above a place of the stack halt. The next lower one resumes each time.
+fn halt_above(stack: &mut Vec<u16>, place: usize, trace: &mut Trace) {
+    for at in (place + 1..stack.len()).rev() {
+        trace.push(stack[at], HALT, stack[at - 1]);
+    }
+    stack.truncate(place + 1);
+}
+
 /// The whole text as a trace, or the refusal: 14 or 15 and the line's number from 0.
 pub fn translate(text: &[u8]) -> Result<Trace, (usize, usize)> {
     let mut rest = Rest(text);
@@ -61,9 +70,7 @@ pub fn translate(text: &[u8]) -> Result<Trace, (usize, usize)> {
             return Err((14, number));
         };
         if let Some(place) = stack.iter().rposition(|&t| t == task) {
-            for halted in stack.drain(place + 1..).rev() {
-                trace.push(halted, HALT, 0);
-            }
+            halt_above(&mut stack, place, &mut trace);
         }
         trace.push(task, kind, operand);
         if kind == FORK {

@@ -78,6 +78,14 @@ impl Trace {
         self.operands.truncate(n);
     }
 
+    /// The same with 0 as the operand of every halt, as traces were stored before halts named a task.
+    pub fn stored(&self) -> Self {
+        let mut stored = self.clone();
+        let halts = self.kinds.iter().zip(&mut stored.operands).filter(|(&kind, _)| kind == HALT);
+        halts.for_each(|(_, operand)| *operand = 0);
+        stored
+    }
+
     pub fn event(&self, p: usize) -> Event {
         (self.tasks[p], self.kinds[p], self.operands[p])
     }
@@ -140,6 +148,14 @@ pub enum Ordering {
     Yes,
     /// The number and the position.
     Refused(usize, usize),
+}
+
+/// What comes of the conversion of a stored trace.
+#[derive(Clone, Copy, Debug, PartialEq, Eq)]
+pub enum Conversion {
+    Done,
+    /// The number; the position is 0.
+    Refused(usize),
 }
 
 /// What comes of a text or of a plan.

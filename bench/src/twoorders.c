@@ -40,8 +40,9 @@ enum {
     MOVES = WORKSPACE /* the position of each move */
 };
 
-/* The running task where none runs; at the bottom of each stack, a task that no event names. */
-enum { NOBODY = 0xffff };
+/* The running task where none runs; at the bottom of each stack, a task that no event names. Its low
+ * bits, as many as a task has, are 0: that is what task 0's own halt names. */
+enum { NOBODY = 0xfc00, TASK_BITS = TASKS - 1 };
 
 /* Events that are tested together; accesses in a row with no test of the end; cells of an order
  * that are written together. */
@@ -190,8 +191,8 @@ static Kept walk(Trace trace, uint16_t *ws, size_t count, size_t end)
         size_t cell = join ? left : paused + 2 * fork;
         HIDE(cell);
         uint32_t entry = entry_at(ws, cell), task = entry >> 16;
-        /* A fork names a new number, a join the entry's task, a halt 0. */
-        uint32_t used = ws[USED + operand], wrong = operand ^ (join ? task : 0);
+        /* A fork names a new number, a join the entry's task, and so does a halt. */
+        uint32_t used = ws[USED + operand], wrong = operand ^ (join ? task : task & TASK_BITS);
         HIDE(wrong);
         wrong = fork ? used : wrong;
         if (UNLIKELY(wrong | (trace.tasks[p] ^ running)))

@@ -142,9 +142,11 @@ static inline uint32_t join_task(uint16_t *ws, Line *line, uint32_t joined)
 
 static inline uint32_t halt_task(uint16_t *ws, Line *line, uint32_t operand)
 {
-    if (operand != 0)
+    uint32_t here = line->active - 1;
+    uint32_t resumed = here == 0 ? 0 : ws[ACTIVE + here - 1];
+    if (operand != resumed)
         return 12;
-    uint32_t here = --line->active;
+    line->active = here;
     uint32_t top = ws[ACTIVE_TOP + here];
     ws[LINK + top] = IN_LEFT;
     ws[LEFT + line->left] = ws[ACTIVE + here];

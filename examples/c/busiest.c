@@ -22,7 +22,8 @@ enum {
     HALT = RACEJUDGE_HALT
 };
 
-/* Task 0 writes the table and forks task 1, then task 2; it joins both and reads what they left. */
+/* Task 0 writes the table and forks task 1, then task 2; it joins both and reads what they left. Their
+ * halts name task 0, which resumes. */
 static const uint8_t kinds[EVENTS] = {WRITE, FORK, READ, READ, WRITE, HALT, FORK, READ,
                                       WRITE, HALT, JOIN, JOIN, READ,  READ, READ};
 static const uint16_t tasks[EVENTS] = {0, 0, 1, 1, 1, 1, 0, 2, 2, 2, 0, 0, 0, 0, 0};

@@ -2,7 +2,7 @@
  *
  *     0 fork 1
  *     1 write 5
- *     1 halt
+ *     1 halt 0
  *     0 read 5
  *
  * and asks whether the write reaches the read. Prints

@@ -9,6 +9,9 @@ use std::process::Command;
 const INSTEAD: &str =
     "or set RACEJUDGE_LIB to the path of an archive with the functions of include/racejudge.h";
 
+/// The call that archives of older versions lack. They hold halts to another rule.
+const NEWEST: &str = "racejudge_convert";
+
 fn main() {
     println!("cargo::rerun-if-changed=build.rs");
     println!("cargo::rerun-if-env-changed=RACEJUDGE_LIB");
@@ -50,9 +53,13 @@ fn proved() -> Result<PathBuf, String> {
 
 /// Links a copy of the archive, under a name of its own.
 fn link(archive: &Path) -> Result<(), String> {
-    let out = directory("OUT_DIR");
-    fs::copy(archive, out.join("libracejudge_linked.a"))
-        .map_err(|error| format!("{} cannot be copied: {error}", archive.display()))?;
+    let (from, out) = (archive.display(), directory("OUT_DIR"));
+    let bytes = fs::read(archive).map_err(|error| format!("{from} cannot be read: {error}"))?;
+    if !bytes.windows(NEWEST.len()).any(|name| name == NEWEST.as_bytes()) {
+        return Err(format!("{from} has no {NEWEST}: it is older than include/racejudge.h"));
+    }
+    fs::write(out.join("libracejudge_linked.a"), bytes)
+        .map_err(|error| format!("{from} cannot be copied: {error}"))?;
     println!("cargo::rustc-link-search=native={}", out.display());
     println!("cargo::rustc-link-lib=static=racejudge_linked");
     let name = archive.file_name().unwrap_or_default().to_string_lossy();

@@ -7,9 +7,12 @@ ghost use Rattle.trace.specs.Lent.{lentTrace};
 ghost use Rattle.trace.specs.Outcome.{judgeOutcome, orderingOutcome};
 ghost use Rattle.trace.specs.Slices.{slices};
 ghost use Rattle.trace.specs.Demands.{JudgeDemand1, JudgeDemand2, JudgeDemand3, JudgeLinks};
+ghost use Rattle.convert.specs.Conversion.{convertOutcome};
+ghost use Rattle.convert.specs.Demands.{ConvertDemand1, ConvertSets, SameVerdicts};
 ghost use Rattle.plan.specs.Decided.{DecidedBy, TracesPlan};
 ghost use Rattle.plan.specs.Tracing.{planned};
 ghost use Rattle.told.specs.Codes.{heard, heardLinks, judgeCall, judgeSeen, orderingCall, orderingSeen};
+ghost use Rattle.told.specs.Codes.{heardConversion, convertCall, convertSeen};
 ghost use Rattle.told.specs.Codes.{heardTrace, translationCall, translateCall, translateSeen, TranslateTells};
 ghost use Rattle.cards.specs.Cards.{withCards, cardsOutcome, cardsCall, cardsSeen};
 ghost use Rattle.cards.specs.Demands.{CardsHeld, CardsDemand1, CardsDemand2};
@@ -58,6 +61,25 @@ pub extern "C" fn racejudge_ordering(
         ≡ orderingCall (orderingOutcome (now (kinds .entry)) (now (tasks .entry)) (now (operands .entry)) (now (ws .entry)) p q) ⌝ }
 {
     told::ordering(kinds, tasks, operands, ws, p, q, values)
+}
+
+// The conversion of a stored trace.
+#[no_mangle]
+pub extern "C" fn racejudge_convert(
+    kinds: &[u8],
+    tasks: &[u16],
+    operands: &mut [u16],
+    ws: &mut [u16],
+    values: &mut [u64; 2],
+) -> u64
+    ensures outcome { λ r. ⌜ convertSeen r (now (values .exit)) (now (operands .exit)) (now (ws .exit))
+        ≡ convertCall (convertOutcome (now (kinds .entry)) (now (tasks .entry)) (now (operands .entry)) (now (ws .entry))) ⌝ }
+    ensures demand1 { λ r. ⌜ ConvertDemand1 (now (kinds .entry)) (now (tasks .entry)) (now (operands .entry)) (now (ws .entry))
+        (heardConversion r (now (values .exit))) (now (operands .exit)) (now (ws .exit)) ⌝ }
+    ensures halts { λ r. ⌜ ConvertSets (now (kinds .entry)) (now (tasks .entry)) (now (operands .entry)) (now (ws .entry)) (now (operands .exit)) ⌝ }
+    ensures verdict { λ r. ⌜ SameVerdicts (now (kinds .entry)) (now (tasks .entry)) (now (operands .entry)) (now (ws .entry)) (now (operands .exit)) ⌝ }
+{
+    told::convert(kinds, tasks, operands, ws, values)
 }
 
 // Text to a trace.

@@ -7,7 +7,7 @@ use mathlib.Core.List.{List}
 use mathlib.Core.Logic.{_≢_}
 use lib.ListN.{length, getD}
 use Rattle.trace.specs.Trace.{Trace, traceOf, READ, WRITE, SUM, LOCATIONS}
-use Rattle.trace.specs.Line.{passes}
+use Rattle.trace.specs.Line.{passes, haltOperand}
 use Rattle.trace.specs.Search.{countBelow}
 use Rattle.trace.specs.Outcome.{Reply, says, refused, Verdict, clean, sizes, orderRoom}
 use Rattle.trace.specs.Demands.{JudgeDemand1, Demand2}
@@ -63,4 +63,4 @@ module _ (kinds tasks operands workspace first second : List ℕ) (cards : List 
 
     -- DEMAND 2: past the size checks it holds of the trace's n events.
     pub record CardsDemand2 : Type 0 where
-      pub past-sizes : (n : ℕ) → cardSizes kinds tasks operands workspace first second (length cards) ≡ passes n → Demand2 (traceOf kinds tasks operands) n answer
+      pub past-sizes : (n : ℕ) → cardSizes kinds tasks operands workspace first second (length cards) ≡ passes n → Demand2 haltOperand (traceOf kinds tasks operands) n answer

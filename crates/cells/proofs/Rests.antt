@@ -33,6 +33,10 @@ same-from-higher le r = record { long = r .long; same = λ i h. r .same i (omega
 pub same-beyond : {base : ℕ} {c d : List ℕ} → base ≤ WORKSPACE-CELLS → SameFrom base c d → SameBeyond c d
 same-beyond low r = record { long = r .long; same = λ i h. r .same i (omega arith) }
 
+-- Where those past the tables are, so are those past the events' cells.
+pub rest-beyond : {n : ℕ} {c d : List ℕ} → SameBeyond c d → Rest n c d
+rest-beyond r = record { long = r .long; same = λ i h. r .same i (omega arith) }
+
 -- A store below them.
 pub rest-set : {n : ℕ} {c d : List ℕ} (i v : ℕ) → i < WORKSPACE-CELLS + n → Rest n c d → Rest n c (set d i v)
 rest-set {d = d} i v low r = record { long = simp length-set (r .long); same = λ j h. getD-set-other d i j v 0 (omega arith) ∙ r .same j h }

@@ -30,12 +30,12 @@ use Rattle.chains.specs.Tables.{Bounded, JoinsAt, Taken, LinksSay}
 
 -- ---- fewer events
 
-pub kept-earlier : {tr : Trace} {n : ℕ} (m : ℕ) → KeepsRules tr n → m ≤ n → KeepsRules tr m
+pub kept-earlier : {tr : Trace} {n : ℕ} (m : ℕ) → KeepsRules haltOperand tr n → m ≤ n → KeepsRules haltOperand tr m
 kept-earlier {tr} {n} m kept le =
     let earlier = passes-earlier haltOperand tr m n (kept .line) le (kept .reached) in
     record { line = earlier .0; reached = earlier .1 }
 
-pub bounded : {tr : Trace} {n : ℕ} → KeepsRules tr n → Bounded tr n
+pub bounded : {tr : Trace} {n : ℕ} → KeepsRules haltOperand tr n → Bounded tr n
 bounded kept m le = few-links (kept-earlier m kept le)
 
 -- ---- one event
@@ -44,7 +44,7 @@ module _ {tr : Trace} {i : ℕ} {c : List ℕ} (at : JoinsAt tr i c) where
   joins-kept : tr .kind i ≢ JOIN → JoinsAt tr (suc i) c
   joins-kept k = record { forest-in = at .forest-in; table = λ t l. at .table t l ∙ ap (λ (p : Parents). p t) (sym (table-kept tr i k)) }
 
-  module _ (kept : KeepsRules tr (suc i)) where
+  module _ (kept : KeepsRules haltOperand tr (suc i)) where
     pub taken-other : tr .kind i ≢ JOIN → Taken tr (suc i) c c
     taken-other k = record { joins-at = joins-kept k; bound = bounded kept; rest = same-from-refl FOREST-CELLS c }
 
@@ -129,7 +129,7 @@ pub record AtStop (tr : Trace) (n events : ℕ) (c : List ℕ) (k i : ℕ) : Typ
   pub joins-end : events ≤ i → JoinsAt tr events c
 
 module _ {tr : Trace} {n events : ℕ} {before entry c : List ℕ} {k count : ℕ} (first : SameFrom FOREST-CELLS before entry) (stops : StopsIn tr n before count)
-    (le : events ≤ n) (kept : KeepsRules tr events) (w : Building tr events entry c k) where
+    (le : events ≤ n) (kept : KeepsRules haltOperand tr events) (w : Building tr events entry c k) where
   pub build-stop : k < count → (i : ℕ) → i ≡ numberIn c k → AtStop tr n events c k i
   build-stop h i read =
       let within = w .within in
@@ -167,7 +167,7 @@ module _ {tr : Trace} {n events : ℕ} {before entry c : List ℕ} {k count : �
 
 -- ---- the largest number of links
 
-module _ {tr : Trace} {n : ℕ} {entry exit : List ℕ} (kept : KeepsRules tr n) (taken : Taken tr n entry exit) where
+module _ {tr : Trace} {n : ℕ} {entry exit : List ℕ} (kept : KeepsRules haltOperand tr n) (taken : Taken tr n entry exit) where
   pub links-say : {links : ℕ} → links ≡ largestBelow TASKS (linksOf (parents exit)) → LinksSay tr n entry exit links
   unfolding longestAfter
   links-say e =

@@ -19,16 +19,16 @@ use Rattle.chains.proofs.Building.{bounded}
 
 -- The events looked at keep the rules.
 module _ (tr : Trace) (n : ℕ) where
-  kept-none : KeepsRules tr 0
+  kept-none : KeepsRules haltOperand tr 0
   unfolding lineAfter
   kept-none = record { line = start; reached = refl }
 
-  kept-looked : (reply : Reply Verdict) → judgement haltOperand tr n ≡ reply → KeepsRules tr (lookedAt n reply)
+  kept-looked : (reply : Reply Verdict) → judgement haltOperand tr n ≡ reply → KeepsRules haltOperand tr (lookedAt n reply)
   unfolding lookedAt
-  kept-looked (says clean) e = demand-2 tr n .clean-iff .0 e .keeps-rules
-  kept-looked (says (race s t)) e = demand-2 tr n .race-iff s t .0 e .keeps-rules
+  kept-looked (says clean) e = demand-2 haltOperand tr n .clean-iff .0 e .keeps-rules
+  kept-looked (says (race s t)) e = demand-2 haltOperand tr n .race-iff s t .0 e .keeps-rules
   kept-looked (refused number p) e =
-      let broken = demand-2 tr n .refused-iff number p .0 e .breaks-first in
+      let broken = demand-2 haltOperand tr n .refused-iff number p .0 e .breaks-first in
       record { line = broken .line; reached = broken .kept-before }
 
   beside-verdict : (reply : Reply Verdict) → judgement haltOperand tr n ≡ reply → (v : Verdict) → reply ≡ says v →

@@ -4,6 +4,7 @@ ghost use mathlib.Core.Path.{_≡_};
 ghost use Prim.Native.Nat.{_≤_, _<_, suc};
 ghost use lib.ListN.{length};
 ghost use Rattle.trace.specs.Lent.{lentTrace};
+ghost use Rattle.trace.specs.Line.{haltOperand};
 ghost use Rattle.trace.specs.Demands.{KeepsRules};
 ghost use Rattle.trace.proofs.Sizes.{Sized};
 ghost use Rattle.stops.specs.Stops.{StopsIn};
@@ -14,7 +15,7 @@ use trace::JOIN;
 // Event i, if it is a join.
 fn take(kinds: &[u8], tasks: &[u16], operands: &[u16], ws: &mut [u16], i: usize)
     requires { ⌜ (i < length (now kinds)) × (length (now tasks) ≡ length (now kinds)) × (length (now operands) ≡ length (now kinds)) ⌝ }
-    requires { ⌜ KeepsRules (lentTrace kinds tasks operands) (suc i) ⌝ }
+    requires { ⌜ KeepsRules haltOperand (lentTrace kinds tasks operands) (suc i) ⌝ }
     requires { ⌜ JoinsAt (lentTrace kinds tasks operands) i (now ws) ⌝ }
     ensures { λ _. ⌜ Taken (lentTrace (kinds .entry) (tasks .entry) (operands .entry)) (suc i) (now (ws .entry)) (now (ws .exit)) ⌝ }
 {
@@ -27,7 +28,7 @@ fn take(kinds: &[u8], tasks: &[u16], operands: &[u16], ws: &mut [u16], i: usize)
 fn build(kinds: &[u8], tasks: &[u16], operands: &[u16], ws: &mut [u16], stops: usize, events: usize)
     requires { ⌜ Sized (now kinds) (now tasks) (now operands) (now ws) (length (now kinds)) ⌝ }
     requires { ⌜ StopsIn (lentTrace kinds tasks operands) (length (now kinds)) (now ws) stops ⌝ }
-    requires { ⌜ (events ≤ length (now kinds)) × KeepsRules (lentTrace kinds tasks operands) events ⌝ }
+    requires { ⌜ (events ≤ length (now kinds)) × KeepsRules haltOperand (lentTrace kinds tasks operands) events ⌝ }
     ensures { λ _. ⌜ Taken (lentTrace (kinds .entry) (tasks .entry) (operands .entry)) events (now (ws .entry)) (now (ws .exit)) ⌝ }
 {
     cells::clear(ws, FOREST_CELLS);
@@ -53,7 +54,7 @@ pub fn longest(
 ) -> usize
     requires { ⌜ Sized (now kinds) (now tasks) (now operands) (now ws) (length (now kinds)) ⌝ }
     requires { ⌜ StopsIn (lentTrace kinds tasks operands) (length (now kinds)) (now ws) stops ⌝ }
-    requires { ⌜ (events ≤ length (now kinds)) × KeepsRules (lentTrace kinds tasks operands) events ⌝ }
+    requires { ⌜ (events ≤ length (now kinds)) × KeepsRules haltOperand (lentTrace kinds tasks operands) events ⌝ }
     ensures { λ r. ⌜ LinksSay (lentTrace (kinds .entry) (tasks .entry) (operands .entry)) events (now (ws .entry)) (now (ws .exit)) r ⌝ }
 {
     build(kinds, tasks, operands, ws, stops, events);

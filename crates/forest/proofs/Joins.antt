@@ -162,10 +162,10 @@ module _ (haltRule : Line → ℕ) (tr : Trace) where
 
 -- ---- a trace that keeps the line rules
 
-pub join-apart : {tr : Trace} {n : ℕ} → KeepsRules tr (suc n) → tr .kind n ≡ JOIN → JoinApart tr n
+pub join-apart : {tr : Trace} {n : ℕ} → KeepsRules haltOperand tr (suc n) → tr .kind n ≡ JOIN → JoinApart tr n
 join-apart {tr} {n} kept k = run-joins haltOperand tr (run-of haltOperand tr (suc n) (kept .line) (kept .reached) .run) k
 
-module _ {tr : Trace} {n : ℕ} (kept : KeepsRules tr n) where
+module _ {tr : Trace} {n : ℕ} (kept : KeepsRules haltOperand tr n) where
   pub joins-forest : Forest (joinsAfter tr n)
   joins-forest = let to = run-of haltOperand tr n (kept .line) (kept .reached) in apart-run haltOperand tr (to .run) .forest
 

@@ -1,4 +1,4 @@
--- The events that lines make (document 01, "The text form", from "Halts are implied" on). Assumes nothing.
+-- The events that lines make (document 01, "The text form", from "Halts are implied" on; document 02, K6). Assumes nothing.
 use Prim.Native.Nat.{ℕ, zero, suc, _+_}
 use mathlib.Core.Bool.{cond}
 use mathlib.Core.List.{List, [], _∷_, _++_}
@@ -6,6 +6,7 @@ use mathlib.Core.Option.{Option, none, some}
 use lib.Dec.{eqb}
 use lib.ListN.{drop}
 use Rattle.trace.specs.Trace.{Event, READ, WRITE, FORK, JOIN, HALT}
+use Rattle.trace.specs.Line.{resumed}
 use Rattle.numbers.specs.Options.{maybe, _then_}
 use Rattle.form.specs.declared.Line.{Line}
 use Rattle.form.specs.declared.Operation.{Operation}
@@ -24,12 +25,10 @@ eventOf l = record { kind = kindOf (l .operation); task = l .task; operand = l .
 
 -- ---- implied halts. A stack is the list of its tasks, the top first: "The program keeps a stack of tasks, task 0 at the bottom"
 
--- What the operand of a task's halt is: "For halt it is 0." The tasks below it on the stack are at hand.
-unfoldable pub haltOperand : List ℕ → ℕ
-haltOperand below = 0
-
+-- The halt of a task, over the tasks below it on the stack. Document 02, K6: "A halt's operand now names the task that resumes; for task 0's own halt it is 0",
+-- and "The text program and the plan reader fill it in." It is the next lower task of the stack, also past a broken rule, where the stack is not the line's.
 abbrev pub halt : ℕ → List ℕ → Event
-halt task below = record { kind = HALT; task = task; operand = haltOperand below }
+halt task below = record { kind = HALT; task = task; operand = resumed below }
 
 -- Halts of the first k tasks of a stack, "top first".
 abbrev pub halts : ℕ → List ℕ → List Event

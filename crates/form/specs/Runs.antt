@@ -3,12 +3,13 @@ use Prim.Native.Nat.{ℕ, zero, suc}
 use mathlib.Core.Path.{_≡_, refl}
 use mathlib.Core.List.{List, [], _∷_, _++_}
 use Rattle.trace.specs.Trace.{Event}
+use Rattle.trace.specs.Line.{resumed}
 use Rattle.trace.specs.Outcome.{Reply, says, refused}
 use Rattle.numbers.specs.Decimal.{decimal}
 use Rattle.numbers.specs.Reading.{digit, isWhole, tooLarge, extended}
 use Rattle.form.specs.Form.{printAll}
 use Rattle.form.specs.Reading.{field, line, parse}
-use Rattle.form.specs.Events.{haltOperand, eventsOf, stackAfter}
+use Rattle.form.specs.Events.{eventsOf, stackAfter}
 use Rattle.form.specs.Translation.{translation}
 use Rattle.form.specs.declared.Line.{Line}
 use Rattle.form.specs.declared.Operation.{Operation}
@@ -22,7 +23,7 @@ event kind task operand = record { kind = kind; task = task; operand = operand }
 
 -- Every definition that `translation` computes by: to unfold this one is to unfold them all.
 unfoldable pub computed : List ℕ → Reply (List Event)
-unfolding translation parse line field digit isWhole tooLarge extended decimal eventsOf haltOperand stackAfter
+unfolding translation parse line field digit isWhole tooLarge extended decimal eventsOf resumed stackAfter
 computed = translation
 
 -- ---- document 01's example
@@ -49,11 +50,34 @@ example-translated = refl
 
 -- ---- implied halts
 
--- `T0|fork(T1)|1`, `T1|fork(T2)|2`, `T0|r(V5)|3`: the halts of 2 and 1, top first.
+-- `T0|fork(T1)|1`, `T1|fork(T2)|2`, `T0|r(V5)|3`: the halts of 2 and 1, top first. Each names the task that resumes.
 pub halts-top-first : translation (printAll (lineOf 0 Fork 1 1 ∷ lineOf 1 Fork 2 2 ∷ lineOf 0 Read 5 3 ∷ []))
-    ≡ says (event 2 0 1 ∷ event 2 1 2 ∷ event 4 2 0 ∷ event 4 1 0 ∷ event 0 0 5 ∷ [])
+    ≡ says (event 2 0 1 ∷ event 2 1 2 ∷ event 4 2 1 ∷ event 4 1 0 ∷ event 0 0 5 ∷ [])
 unfolding computed
 halts-top-first = refl
+
+-- `T0|fork(T1)|1`, `T1|fork(T2)|2`, `T2|fork(T3)|3`, `T1|r(V5)|4`: that is the task below. At the halt of 3 it is 2, and not 1, which acts next; at neither halt
+-- is it 0, the bottom.
+pub halts-to-task-below :
+    translation (printAll (lineOf 0 Fork 1 1 ∷ lineOf 1 Fork 2 2 ∷ lineOf 2 Fork 3 3 ∷ lineOf 1 Read 5 4 ∷ []))
+    ≡ says (event 2 0 1 ∷ event 2 1 2 ∷ event 2 2 3 ∷ event 4 3 2 ∷ event 4 2 1 ∷ event 0 1 5 ∷ [])
+unfolding computed
+halts-to-task-below = refl
+
+-- `T0|fork(T1)|1`, `T7|fork(T2)|2`, `T1|fork(T1)|3`, `T0|r(V5)|4`: the line rules are broken at event 1, a fork by 7, which does not run, and the stack goes
+-- on. The halt of 2 names 1, on which 2 stands, and of two tasks 1 that of the upper one names the lower.
+pub halts-past-a-broken-rule :
+    translation (printAll (lineOf 0 Fork 1 1 ∷ lineOf 7 Fork 2 2 ∷ lineOf 1 Fork 1 3 ∷ lineOf 0 Read 5 4 ∷ []))
+    ≡ says (event 2 0 1 ∷ event 2 7 2 ∷ event 4 2 1 ∷ event 2 1 1 ∷ event 4 1 1 ∷ event 4 1 0 ∷ event 0 0 5 ∷ [])
+unfolding computed
+halts-past-a-broken-rule = refl
+
+-- `T0|fork(T1)|1`, `T1|fork(T0)|2`, `T1|r(V5)|3`: the fork of a used number breaks a rule, and 0 stands on the stack twice. The upper 0 has a task below it, and its
+-- halt names that.
+pub second-task-0 : translation (printAll (lineOf 0 Fork 1 1 ∷ lineOf 1 Fork 0 2 ∷ lineOf 1 Read 5 3 ∷ []))
+    ≡ says (event 2 0 1 ∷ event 2 1 0 ∷ event 4 0 1 ∷ event 0 1 5 ∷ [])
+unfolding computed
+second-task-0 = refl
 
 -- `T0|fork(T1)|1`, `T1|fork(T0)|2`, `T0|w(V5)|3`, `T7|join(T1)|4`: 0 stands on top of the stack again, and 7 nowhere. Nothing is added at the end.
 pub no-halts : translation (printAll (lineOf 0 Fork 1 1 ∷ lineOf 1 Fork 0 2 ∷ lineOf 0 Write 5 3 ∷ lineOf 7 Join 1 4 ∷ []))

@@ -6,11 +6,12 @@ use mathlib.Core.Logic.{inr, _≢_}
 use native.Mathlib.Omega.{arith}
 use lib.ListN.{length}
 use Rattle.trace.specs.Trace.{Trace, traceOf, MAX-EVENTS, WORKSPACE-CELLS}
+use Rattle.trace.specs.Graph.{graphEvents}
 use Rattle.trace.specs.Line.{haltOperand}
 use Rattle.trace.specs.Joins.{longestAfter}
 use Rattle.trace.specs.Outcome.{Reply, says, refused, Verdict, clean, race, lookedAt, linksBeside, firstOrder, secondOrder}
 use Rattle.trace.specs.Race.{Race}
-use Rattle.trace.specs.Demands.{KeepsRules, NoRaceBefore, graphOf}
+use Rattle.trace.specs.Demands.{KeepsRules, NoRaceBefore}
 use Rattle.trace.proofs.Lines.{graph-kept, located}
 use Rattle.trace.proofs.Sizes.{Sized}
 use Rattle.trace.proofs.Demand2.{demand-2, judgement-clean}
@@ -41,7 +42,7 @@ module _ {kinds tasks operands entry ordered : List ℕ} {events number : ℕ} (
   abbrev n : ℕ
   n = length kinds
 
-  graph-is : events ≡ graphOf tr n
+  graph-is : events ≡ graphEvents haltOperand tr n
   graph-is = ranked .rules .graph
 
   -- What `scan` asks.
@@ -52,7 +53,7 @@ module _ {kinds tasks operands entry ordered : List ℕ} {events number : ℕ} (
       record {
         of-operands = omega (arith, ranked .segments-in .within, lent .of-operands);
         segments-in = ranked .segments-in;
-        locations = rw graph-is (located haltOperand tr (graphOf tr n) (kept .0) (kept .1));
+        locations = rw graph-is (located haltOperand tr (graphEvents haltOperand tr n) (kept .0) (kept .1));
         within = lead .0;
         leading = lead .1;
       }
@@ -63,11 +64,11 @@ module _ {kinds tasks operands entry ordered : List ℕ} {events number : ℕ} (
 
     -- What `chains` asks: the slices and the list of the stops are as they were, and the events before t keep the rules.
     pub chains-asked : {stops : ℕ} → StopsIn tr n ordered stops →
-        Sized kinds tasks operands scanned n × (StopsIn tr n scanned stops × ((t ≤ n) × KeepsRules tr t))
+        Sized kinds tasks operands scanned n × (StopsIn tr n scanned stops × ((t ≤ n) × KeepsRules haltOperand tr t))
     chains-asked stops =
         let within = ranked .segments-in .within in
         let graph = graph-kept haltOperand tr n in
-        let keeps : KeepsRules tr (graphOf tr n) = record { line = graph .0; reached = graph .1 } in (
+        let keeps : KeepsRules haltOperand tr (graphEvents haltOperand tr n) = record { line = graph .0; reached = graph .1 } in (
           sized-same lent (kept .long ∙ ranked .rest .long),
           (
             stops-still (same-beyond (omega arith) kept) stops,
@@ -135,7 +136,7 @@ module _ {kinds tasks operands entry ordered : List ℕ} {events number : ℕ} (
                     long = spread .long ∙ linked-rest .long;
                     same = λ i h. spread .same i (inr (omega arith)) ∙ linked-rest .same i h;
                   };
-              answer = sym (demand-2 tr n .race-iff s t .1 (r .pair));
+              answer = sym (demand-2 haltOperand tr n .race-iff s t .1 (r .pair));
               beside = said .largest ∙ sym (longest-access tr t (r .pair .pair .conflict .second-access));
               bound = bounded (r .pair .keeps-rules);
               first = r .first;
@@ -145,7 +146,7 @@ module _ {kinds tasks operands entry ordered : List ℕ} {events number : ℕ} (
       -- ---- no race: the rules decide
 
       module _ (b₁ b₂ : List ℕ) (all : events ≤ t) where
-        no-race : NoRaceBefore tr (graphOf tr n) events
+        no-race : NoRaceBefore tr (graphEvents haltOperand tr n) events
         no-race = rw (← graph-is) (λ p q h i. none-before p q h (omega arith))
 
         pub decided-refused : (reply : Reply Verdict) (beside : ℕ) → number ≢ 0 → (reply ≡ refused number events) × (beside ≡ 0)
@@ -153,7 +154,7 @@ module _ {kinds tasks operands entry ordered : List ℕ} {events number : ℕ} (
         unfolding firstOrder secondOrder linksBeside lookedAt
         decided-refused reply beside met e =
             let b = ranked .rules .met met in
-            let is = demand-2 tr n .refused-iff number events .1 (record { inside = b .0; breaks-first = b .1; no-race = no-race }) in
+            let is = demand-2 haltOperand tr n .refused-iff number events .1 (record { inside = b .0; breaks-first = b .1; no-race = no-race }) in
             rw (e .0) (record {
               rest = linked-rest;
               answer = sym is;
@@ -170,7 +171,7 @@ module _ {kinds tasks operands entry ordered : List ℕ} {events number : ℕ} (
             let whole : t ≡ n = omega (arith, k .0, found .within) in
             record {
               rest = linked-rest;
-              answer = sym (judgement-clean tr n (k .1) (rw (k .0) at no-race));
+              answer = sym (judgement-clean haltOperand tr n (k .1) (rw (k .0) at no-race));
               beside = said .largest ∙ ap (longestAfter tr) whole;
               bound = bounded (k .1);
               first = refl;

@@ -4,10 +4,10 @@ use mathlib.Core.Path.{_≡_}
 use mathlib.Core.List.{List}
 use Rattle.trace.specs.declared.Answer.{Answer}
 use Rattle.trace.specs.Trace.{Trace}
+use Rattle.trace.specs.Graph.{graphEvents}
 use Rattle.trace.specs.Line.{haltOperand}
 use Rattle.trace.specs.Outcome.{Reply, Verdict, Outcome, judgement, lookedAt, linksBeside, firstOrder, secondOrder}
 use Rattle.trace.specs.Answers.{judgeReply, judgeLinks}
-use Rattle.trace.specs.Demands.{graphOf}
 use Rattle.cells.specs.Cells.{Rest}
 use Rattle.chains.specs.Tables.{Bounded}
 
@@ -22,5 +22,5 @@ pub record Decided (tr : Trace) (n : ℕ) (reply : Reply Verdict) (links : ℕ) 
   pub answer : reply ≡ judgement haltOperand tr n
   pub beside : links ≡ linksBeside tr n reply
   pub bound : Bounded tr (lookedAt n reply)
-  pub first : a₁ ≡ firstOrder tr (graphOf tr n) reply b₁
-  pub second : a₂ ≡ secondOrder tr (graphOf tr n) reply b₂
+  pub first : a₁ ≡ firstOrder tr (graphEvents haltOperand tr n) reply b₁
+  pub second : a₂ ≡ secondOrder tr (graphEvents haltOperand tr n) reply b₂

@@ -8,7 +8,7 @@ use mathlib.Core.Logic.{_≢_}
 use native.Mathlib.Omega.{arith}
 use borrow.Author.Tests.{eqb-false, eq-eqb, ne-eqb, not-false}
 use Rattle.trace.specs.Trace.{Trace, isKind}
-use Rattle.trace.specs.Line.{passes, fails, haltOperand, lineAfter}
+use Rattle.trace.specs.Line.{Line as TraceLine, passes, fails, lineAfter}
 use Rattle.trace.specs.Demands.{KeepsRules, BreaksFirst}
 use Rattle.trace.proofs.Tests.{either, same-or-not}
 use Rattle.trace.proofs.Lines.{line-more, passes-not-fails}
@@ -23,13 +23,13 @@ use Rattle.line.specs.Held.{LineCells, LineAt, SameFree, AccessBy}
 use Rattle.line.proofs.Rows.{rule-join}
 use Rattle.line.proofs.Bounds.{depths-few}
 use Rattle.line.proofs.Moves.{running-first, free-eq}
-use Rattle.line.proofs.EventLaw.{Agrees, event-law}
+use Rattle.line.proofs.EventLaw.{Agrees, Given, event-law}
 
 -- ---- the events before n
 
 -- Where the cells hold the line after n events, these keep the rules.
-pub line-keeps : {tr : Trace} {n : ℕ} {c : List ℕ} {line : Line} → LineAt tr n c line → KeepsRules tr n
-line-keeps {tr} at = record { line = lineOf (at .left) (at .active) (at .used); reached = line-of haltOperand tr (at .run) }
+pub line-keeps : {rule : TraceLine → ℕ} {tr : Trace} {n : ℕ} {c : List ℕ} {line : Line} → LineAt rule tr n c line → KeepsRules rule tr n
+line-keeps {rule} {tr} at = record { line = lineOf (at .left) (at .active) (at .used); reached = line-of rule tr (at .run) }
 
 -- ---- event n
 
@@ -41,25 +41,25 @@ unfolding rowIn
 row-kept c number true s line e = absurd (passes-not-fails e refl)
 row-kept c number false s line e = (refl, e)
 
-module _ {tr : Trace} {n : ℕ} {c : List ℕ} {line : Line} (at : LineAt tr n c line) (next : Line) (row : ℕ) (exit : List ℕ)
-    (said : rowed next row exit ≡ eventIn c line (tr .kind n) (tr .task n) (tr .operand n)) where
+module _ {rule : TraceLine → ℕ} {tr : Trace} {n : ℕ} {c : List ℕ} {line : Line} (at : LineAt rule tr n c line) {operand : ℕ} (given : Given rule tr n operand)
+    (next : Line) (row : ℕ) (exit : List ℕ) (said : rowed next row exit ≡ eventIn c line (tr .kind n) (tr .task n) operand) where
   -- The law of one event, of the step that the code took.
-  agrees : (s : Stepped) → s ≡ rowed next row exit → Agrees tr n c (lineAfter haltOperand tr (suc n)) (s .result) (s .cells)
-  agrees s e = rw (e ∙ said) (event-law at)
+  agrees : (s : Stepped) → s ≡ rowed next row exit → Agrees rule tr n c (lineAfter rule tr (suc n)) (s .result) (s .cells)
+  agrees s e = rw (e ∙ said) (event-law at given)
 
   module _ (some : row ≢ 0) where
-    met : (lineAfter haltOperand tr (suc n) ≡ fails row) × (exit ≡ c)
+    met : (lineAfter rule tr (suc n) ≡ fails row) × (exit ≡ c)
     unfolding rowed
     met = agrees (record { result = fails row; cells = exit }) (rw (ne-eqb row 0 some))
 
     -- It breaks a rule, as the first, and no cell changes;
-    pub event-broken : BreaksFirst tr n row
+    pub event-broken : BreaksFirst rule tr n row
     event-broken =
         let before = line-keeps at in
         record {
           line = before .line;
           kept-before = before .reached;
-          broken = sym (line-more haltOperand tr n (before .line) (before .reached)) ∙ met .0;
+          broken = sym (line-more rule tr n (before .line) (before .reached)) ∙ met .0;
         }
 
     pub event-unchanged : exit ≡ c
@@ -70,11 +70,11 @@ module _ {tr : Trace} {n : ℕ} {c : List ℕ} {line : Line} (at : LineAt tr n c
     unfolding rowed
     step = rw (eq-eqb row 0 none)
 
-    passed : eventIn c line (tr .kind n) (tr .task n) (tr .operand n) .result ≡ passes next
+    passed : eventIn c line (tr .kind n) (tr .task n) operand .result ≡ passes next
     passed = ap (λ (s : Stepped). s .result) (sym (step ∙ said))
 
     -- or it keeps the rules, and the cells hold the line after it.
-    pub event-next : LineAt tr (suc n) exit next
+    pub event-next : LineAt rule tr (suc n) exit next
     event-next = agrees (goes next exit) step .at
 
     -- Then its kind is one of the document's,
@@ -103,7 +103,7 @@ module _ {tr : Trace} {n : ℕ} {c : List ℕ} {line : Line} (at : LineAt tr n c
           few-left = omega arith;
           halts = λ k. event-active;
           joins = λ k.
-              let join : actIn c line Join (tr .operand n) .result ≡ passes next = rw (← rule-join (tr .kind n) k) at (seven .1) in
+              let join : actIn c line Join operand .result ≡ passes next = rw (← rule-join (tr .kind n) k) at (seven .1) in
               let some = eqb-false (line .left) 0 (row-kept c _ _ _ next join .0) in
               omega arith;
         }
@@ -114,9 +114,9 @@ module _ {tr : Trace} {n : ℕ} {c : List ℕ} {line : Line} (at : LineAt tr n c
 
 -- ---- an access of the running task
 
-module _ {tr : Trace} {c : List ℕ} {line : Line} {x : ℕ} (some : 0 < line .active) (runs : x ≡ runningIn c line) where
+module _ {rule : TraceLine → ℕ} {tr : Trace} {c : List ℕ} {line : Line} {x : ℕ} (some : 0 < line .active) (runs : x ≡ runningIn c line) where
   -- It leaves the line as it is.
-  pub line-access : (n : ℕ) → LineAt tr n c line → AccessBy tr x n → LineAt tr (suc n) c line
+  pub line-access : (n : ℕ) → LineAt rule tr n c line → AccessBy tr x n → LineAt rule tr (suc n) c line
   line-access n at a =
       let first = running-first (at .active) (at .cells) some (a .task ∙ runs) in
       record {
@@ -124,6 +124,6 @@ module _ {tr : Trace} {c : List ℕ} {line : Line} {x : ℕ} (some : 0 < line .a
         active = tr .task n ∷ first .0;
         used = at .used;
         last = updated (at .last) (tr .task n) (suc n);
-        run = access (subst (λ (l : List ℕ). Run haltOperand tr n (at .left) l (at .used) (at .last)) (first .1) (at .run)) (a .kind) (a .location);
+        run = access (subst (λ (l : List ℕ). Run rule tr n (at .left) l (at .used) (at .last)) (first .1) (at .run)) (a .kind) (a .location);
         cells = subst (λ (l : List ℕ). LineCells c line (at .left) l (at .used)) (first .1) (at .cells);
       }

@@ -2,13 +2,14 @@
 use Prim.Native.Nat.{ℕ, _+_, _-_, _<_, _≤_}
 use mathlib.Core.Path.{_≡_, refl, sym, ap, _∙_}
 use mathlib.Core.Bool.{false≢true}
-use mathlib.Core.List.{List, [], _∷_}
+use mathlib.Core.List.{List, [], _∷_, tail}
 use mathlib.Core.Logic.{inl, inr, _≢_}
 use native.Mathlib.Omega.{arith}
 use lib.ListN.{length, getD, set, length-set}
 use lib.Seq.{getD-set-same, getD-set-other}
+use borrow.Author.Tests.{lt-ltb, le-ltb}
 use Rattle.trace.specs.Trace.{Trace, TASKS, WORKSPACE-CELLS}
-use Rattle.trace.specs.Line.{haltOperand}
+use Rattle.trace.specs.Line.{Line as TraceLine, resumed}
 use Rattle.trace.proofs.Tests.{either, same-or-not, Tests, tests-map}
 use Rattle.trace.proofs.Stacks.{In}
 use Rattle.trace.proofs.Run.{stacks-length}
@@ -16,7 +17,7 @@ use Rattle.cells.specs.Cells.{zeroed, SameBeyond}
 use Rattle.cells.proofs.Zeroed.{zeroed-length, zeroed-below, zeroed-beyond}
 use Rattle.line.specs.declared.Line.{Line}
 use Rattle.line.specs.Rules.{Fork, Join, Halt}
-use Rattle.line.specs.Cells.{USED, USED-CELLS, NOW-USED, LEFT, ACTIVE, depths, runningIn, nearestIn, isUsedIn, startedIn, forkedIn, haltedIn}
+use Rattle.line.specs.Cells.{USED, USED-CELLS, NOW-USED, LEFT, ACTIVE, depths, runningIn, nearestIn, resumedIn, isUsedIn, startedIn, forkedIn, haltedIn}
 use Rattle.line.specs.Steps.{afterIn}
 use Rattle.line.specs.Held.{StackAt, LineCells, LineAt, OfLine, Free, SameFree}
 
@@ -50,6 +51,17 @@ nearest-is {c = c} {line = line} {left = left} l =
     let i : LEFT + line .left - 1 ≡ LEFT + length left = omega arith in
     ap (λ (j : ℕ). getD c j 0) i ∙ l .left-cells .0
 
+-- The task that resumes is the first of those paused below the running one, if there is one, else 0.
+pub resumed-is :
+    {c : List ℕ} {line : Line} {left used : List ℕ} (active : List ℕ) → LineCells c line left active used → resumedIn c line ≡ resumed (tail active)
+unfolding resumedIn resumed
+resumed-is {line = line} [] l = rw (lt-ltb (line .active) 2 (omega (arith, l .active-depth))) refl
+resumed-is {line = line} (x ∷ []) l = rw (lt-ltb (line .active) 2 (omega (arith, l .active-depth))) refl
+resumed-is {c = c} {line = line} (x ∷ (y ∷ paused)) l =
+    let depth = l .active-depth in
+    let i : ACTIVE + line .active - 2 ≡ ACTIVE + length paused = omega arith in
+    rw (le-ltb (line .active) 2 (omega arith)) (ap (λ (j : ℕ). getD c j 0) i ∙ l .active-cells .1 .0)
+
 -- ---- the frame: cells outside the line's own tables do not matter to it
 
 module _ {c d : List ℕ} (room : WORKSPACE-CELLS ≤ length d) (same : (i : ℕ) → OfLine i → getD d i 0 ≡ getD c i 0) where
@@ -67,15 +79,15 @@ module _ {c d : List ℕ} (room : WORKSPACE-CELLS ≤ length d) (same : (i : ℕ
       }
 
   -- THE LINE STAYS where its own tables do.
-  pub line-frame : {tr : Trace} {n : ℕ} {line : Line} → LineAt tr n c line → LineAt tr n d line
-  line-frame {tr} at =
+  pub line-frame : {rule : TraceLine → ℕ} {tr : Trace} {n : ℕ} {line : Line} → LineAt rule tr n c line → LineAt rule tr n d line
+  line-frame {rule} {tr} at =
       record {
         left = at .left;
         active = at .active;
         used = at .used;
         last = at .last;
         run = at .run;
-        cells = cells-frame (at .cells) (stacks-length haltOperand tr (at .run));
+        cells = cells-frame (at .cells) (stacks-length rule tr (at .run));
       }
 
 -- ---- cells that no move stores to

@@ -1,19 +1,21 @@
 -- Laws of the rows of a step, premises spelt as the code's tests and its callees' contracts are. The set `rows` holds them for `search`, which then
 -- peels the tests one by one. Assumes nothing.
-use Prim.Native.Nat.{ℕ, _≤_, _<_}
+use Prim.Native.Nat.{ℕ, _+_, _-_, _≤_, _<_}
 use mathlib.Core.Path.{_≡_, refl, sym, ap, _∙_}
 use mathlib.Core.Bool.{Bool, true, false, not}
 use mathlib.Core.List.{List}
 use mathlib.Core.Logic.{_≢_}
 use native.Mathlib.Omega.{arith}
 use lib.Dec.{eqb, leb}
-use borrow.Author.Tests.{le-leb, lt-leb, eq-eqb, ne-eqb}
+use lib.ListN.{getD}
+use borrow.Author.Tests.{lt-ltb, le-ltb, le-leb, lt-leb, eq-eqb, ne-eqb}
 use Rattle.trace.specs.Trace.{FORK, JOIN, SUM, LOCATIONS, isKind, isAccess}
 use Rattle.trace.proofs.Tests.{by-test}
 use Rattle.trace.proofs.EventKinds.{rest-is-halt}
 use Rattle.line.specs.declared.Line.{Line}
 use Rattle.line.specs.Rules.{Rule, Access, Fork, Join, Halt, Unknown, ruleOf}
-use Rattle.line.specs.Steps.{Stepped, goes, rowed, afterIn, rowIn, locationRow, locationIn, actIn}
+use Rattle.line.specs.Cells.{ACTIVE, resumedIn, haltedIn}
+use Rattle.line.specs.Steps.{Stepped, goes, rowed, afterIn, rowIn, locationRow, locationIn, haltIn, actIn}
 
 -- ---- tests: u is what the code read of v
 
@@ -35,6 +37,16 @@ not-met b e = rw e
 pub not-passed : (b : Bool) → b ≡ true → not b ≡ false
 not-passed b e = rw e
 
+-- ---- the task that resumes
+
+pub resumed-none : (c : List ℕ) (line : Line) → line .active < 2 → 0 ≡ resumedIn c line
+unfolding resumedIn
+resumed-none c line h = rw (lt-ltb (line .active) 2 h) refl
+
+pub resumed-below : (c : List ℕ) (line : Line) (task : ℕ) → 2 ≤ line .active → task ≡ getD c (ACTIVE + line .active - 2) 0 → task ≡ resumedIn c line
+unfolding resumedIn
+resumed-below c line task h e = rw (le-ltb (line .active) 2 h) e
+
 -- ---- the rows of a step
 
 -- A row whose condition holds refuses.
@@ -52,6 +64,17 @@ row-passed x c number b next e f = rw e f
 pub row-goes : (line : Line) (c d : List ℕ) → c ≡ d → rowed line 0 c ≡ goes line d
 unfolding rowed
 row-goes line c d e = ap (goes line) e
+
+-- Row 12: the operand is held against the task that resumes.
+module _ (c : List ℕ) (line : Line) (operand parent : ℕ) (resumes : parent ≡ resumedIn c line) where
+  pub halt-met : operand ≢ parent → rowed (afterIn line Halt) 12 c ≡ haltIn c line operand
+  unfolding haltIn
+  halt-met h = row-met c (afterIn line Halt) 12 _ _ refl (not-met _ (ne-eqb operand (resumedIn c line) (λ e. h (e ∙ sym resumes))))
+
+  pub halt-passed : (exit : List ℕ) → operand ≡ parent → exit ≡ haltedIn c line → rowed (afterIn line Halt) 0 exit ≡ haltIn c line operand
+  unfolding haltIn
+  halt-passed exit h e =
+      row-passed _ c 12 _ _ (not-passed _ (eq-eqb operand (resumedIn c line) (h ∙ resumes))) (row-goes (afterIn line Halt) exit (haltedIn c line) e)
 
 -- Row 8, which is told with no cells.
 pub location-met : (a : ℕ) → LOCATIONS ≤ a → 8 ≡ locationRow a

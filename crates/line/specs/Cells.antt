@@ -1,8 +1,8 @@
 -- The line's tables in the cells of a workspace, and what the functions leave in them. In every definition c is the workspace's cells. Assumes nothing.
 use Prim.Native.Nat.{ℕ, _+_, _-_}
-use mathlib.Core.Bool.{Bool, not}
+use mathlib.Core.Bool.{Bool, not, cond}
 use mathlib.Core.List.{List}
-use lib.Dec.{eqb}
+use lib.Dec.{eqb, ltb}
 use lib.ListN.{getD, set}
 use Rattle.cells.specs.Cells.{zeroed}
 use Rattle.line.specs.declared.Line.{Line}
@@ -35,6 +35,10 @@ runningIn c line = getD c (ACTIVE + line .active - 1) 0
 
 abbrev pub nearestIn : List ℕ → Line → ℕ
 nearestIn c line = getD c (LEFT + line .left - 1) 0
+
+-- The task that resumes where the running one halts: the one below it, if there is one, else 0.
+unfoldable pub resumedIn : List ℕ → Line → ℕ
+resumedIn c line = cond (ltb (line .active) 2) 0 (getD c (ACTIVE + line .active - 2) 0)
 
 -- The task's number has been used.
 unfoldable pub isUsedIn : List ℕ → ℕ → Bool

@@ -6,7 +6,7 @@ use mathlib.Core.List.{List, [], _∷_}
 use mathlib.Core.Logic.{_⊎_}
 use lib.ListN.{length, getD}
 use Rattle.trace.specs.Trace.{Trace, isAccess, TASKS, LOCATIONS, WORKSPACE-CELLS}
-use Rattle.trace.specs.Line.{haltOperand}
+use Rattle.trace.specs.Line.{Line as TraceLine}
 use Rattle.trace.proofs.Tests.{Tests}
 use Rattle.trace.proofs.Stacks.{In}
 use Rattle.trace.proofs.Run.{Run}
@@ -27,20 +27,21 @@ pub record LineCells (c : List ℕ) (line : Line) (left active used : List ℕ) 
   pub active-cells : StackAt c ACTIVE active
   pub used-cells : (t : ℕ) → t < TASKS → Tests (isUsedIn c t) (In t used)
 
--- The cells hold the line after the first n events of a trace.
-pub record LineAt (tr : Trace) (n : ℕ) (c : List ℕ) (line : Line) : Type 0 where
+-- The cells hold the line after the first n events of a trace, with one rule or another for a halt's operand.
+pub record LineAt (haltRule : TraceLine → ℕ) (tr : Trace) (n : ℕ) (c : List ℕ) (line : Line) : Type 0 where
   pub left : List ℕ
   pub active : List ℕ
   pub used : List ℕ
   pub last : ℕ → ℕ
-  pub run : Run haltOperand tr n left active used last
+  pub run : Run haltRule tr n left active used last
   pub cells : LineCells c line left active used
 
 -- The cells hold the line of some trace: what the functions over the line ask for.
 pub record Sound (c : List ℕ) (line : Line) : Type 0 where
+  pub rule : TraceLine → ℕ
   pub trace : Trace
   pub events : ℕ
-  pub at : LineAt trace events c line
+  pub at : LineAt rule trace events c line
 
 -- A cell of the tables that hold the line: USED, LEFT and ACTIVE.
 abbrev pub OfLine : ℕ → Type 0

@@ -8,7 +8,7 @@ use Rattle.trace.specs.Trace.{JOIN, HALT, LOCATIONS, TASKS, isKind}
 use Rattle.trace.specs.Line.{Checked, passes, fails}
 use Rattle.line.specs.declared.Line.{Line}
 use Rattle.line.specs.Rules.{Rule, Access, Fork, Join, Halt, Unknown, ruleOf}
-use Rattle.line.specs.Cells.{depths, runningIn, nearestIn, isUsedIn, forkedIn, haltedIn}
+use Rattle.line.specs.Cells.{depths, runningIn, nearestIn, resumedIn, isUsedIn, forkedIn, haltedIn}
 
 -- The next line or the row met, and the cells.
 pub record Stepped : Type 0 where
@@ -57,7 +57,7 @@ module _ (c : List ℕ) (line : Line) where
   joinIn a = rowIn c 11 (eqb (line .left) 0) (rowIn c 11 (not (eqb (nearestIn c line) a)) (goes (afterIn line Join) c))
 
   unfoldable pub haltIn : ℕ → Stepped
-  haltIn a = rowIn c 12 (not (eqb a 0)) (goes (afterIn line Halt) (haltedIn c line))
+  haltIn a = rowIn c 12 (not (eqb a (resumedIn c line))) (goes (afterIn line Halt) (haltedIn c line))
 
   -- The row for the event's kind.
   unfoldable pub actIn : Rule → ℕ → Stepped

@@ -5,7 +5,7 @@ ghost use Prim.Native.Nat.{_+_, _-_, _≤_, _<_};
 ghost use lib.ListN.{length};
 ghost use Rattle.trace.specs.Trace.{TASKS, WORKSPACE-CELLS};
 ghost use Rattle.line.specs.Rules.{Fork, Join, Halt, ruleOf};
-ghost use Rattle.line.specs.Cells.{depths, runningIn, nearestIn, startedIn, forkedIn, haltedIn};
+ghost use Rattle.line.specs.Cells.{depths, runningIn, nearestIn, resumedIn, startedIn, forkedIn, haltedIn};
 ghost use Rattle.line.specs.Steps.{afterIn, Movable, rowed, locationRow, forkIn, joinIn, haltIn, actIn, eventIn};
 ghost use Rattle.line.specs.Held.{Sound};
 use trace::FORK;
@@ -63,6 +63,17 @@ fn nearest(ws: &[u16], line: Line) -> u16
     ensures { λ r. ⌜ r ≡ nearestIn (now (ws .entry)) line ⌝ }
 {
     ws[LEFT + line.left - 1]
+}
+
+// The task that resumes where the running one halts: the one below it; where none is, as below task 0, it is 0.
+pub fn resumes(ws: &[u16], line: Line) -> u16
+    requires { ⌜ Sound (now ws) line ⌝ }
+    ensures { λ r. ⌜ r ≡ resumedIn (now (ws .entry)) line ⌝ }
+{
+    if line.active < 2 {
+        return 0;
+    }
+    ws[ACTIVE + line.active - 2]
 }
 
 // A fork: the child runs, and its parent stays below it.
@@ -127,13 +138,14 @@ fn join_row(ws: &[u16], line: Line, task: u16) -> usize
     0
 }
 
-// Row 12: "For halt it is 0."
+// Row 12: the operand "names the task that resumes".
 fn halt_row(ws: &mut [u16], line: Line, operand: u16) -> usize
     requires { ⌜ Sound (now ws) line ⌝ }
     requires { ⌜ 0 < line .active ⌝ }
     ensures { λ r. ⌜ rowed (afterIn line Halt) r (now (ws .exit)) ≡ haltIn (now (ws .entry)) line operand ⌝ }
 {
-    if operand != 0 {
+    let parent = resumes(ws, line);
+    if operand != parent {
         return 12;
     }
     halt(ws, line);

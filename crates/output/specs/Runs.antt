@@ -3,7 +3,7 @@ use Prim.Native.Nat.{ℕ}
 use mathlib.Core.Path.{_≡_, refl}
 use mathlib.Core.List.{List, [], _∷_}
 use lib.ListN.{replicate}
-use Rattle.trace.specs.Outcome.{says, refused, clean, Outcome, judgeOutcome}
+use Rattle.trace.specs.Outcome.{says, refused, clean, Outcome, sizes, orderRoom, judgeChecked, judgeOutcome}
 use Rattle.trace.proofs.Table.{computed}
 use Rattle.numbers.specs.Decimal.{decimal}
 use Rattle.output.specs.Output.{orderLines, output}
@@ -23,7 +23,7 @@ exampleOutput =
 
 -- "the whole output is"
 pub example-output : output (judged .answer) 4 (judged .first) (judged .second) ≡ exampleOutput
-unfolding output orderLines decimal computed
+unfolding output orderLines decimal judgeOutcome judgeChecked orderRoom sizes computed
 example-output = refl
 
 -- `clean 0` and `refused 14 3`, with their line feeds.

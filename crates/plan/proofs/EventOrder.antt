@@ -11,7 +11,7 @@ use Rattle.trace.specs.Trace.{Event, FORK, JOIN, HALT, isAccess}
 use Rattle.trace.specs.Orders.{countUp}
 use Rattle.trace.proofs.Tests.{by-test}
 use Rattle.plan.specs.Plans.{Plan, leaf, pair}
-use Rattle.plan.specs.Events.{kindOf, event, haltOperand, forks, eventsFrom, eventsOf}
+use Rattle.plan.specs.Events.{kindOf, event, forks, eventsFrom, eventsOf}
 use Rattle.plan.specs.Leaves.{events}
 use Rattle.plan.specs.declared.Access.the-variants.{Read, Write, Sum}
 use Rattle.plan.specs.declared.Operator.the-variants.{Series, Parallel}
@@ -84,7 +84,7 @@ accesses-from (leaf Sum l) x next = refl
 accesses-from (pair Series a b) x next =
     rw (accesses-append (eventsFrom a x next) (eventsFrom b x (next + forks a)), accesses-from a x next, accesses-from b x (next + forks a))
 accesses-from (pair Parallel a b) x next =
-    accesses-parallel x next (haltOperand x) (eventsFrom a next (next + 1)) (eventsFrom b x (next + 1 + forks a))
+    accesses-parallel x next _ (eventsFrom a next (next + 1)) (eventsFrom b x (next + 1 + forks a))
     (accesses-from a next (next + 1)) (accesses-from b x (next + 1 + forks a))
 
 -- P "forks a task for G1, goes on with G2": the accesses are the leaves, from left to right.
@@ -124,7 +124,7 @@ forked-from (pair Series a b) x next =
     rw (forked-append (eventsFrom a x next) (eventsFrom b x (next + forks a)), forked-from a x next, forked-from b x (next + forks a))
     (sym (countUp-add next (forks a) (forks b)))
 forked-from (pair Parallel a b) x next =
-    forked-parallel x next (forks a) (forks b) (haltOperand x) (eventsFrom a next (next + 1)) (eventsFrom b x (next + 1 + forks a))
+    forked-parallel x next (forks a) (forks b) _ (eventsFrom a next (next + 1)) (eventsFrom b x (next + 1 + forks a))
     (forked-from a next (next + 1)) (forked-from b x (next + 1 + forks a))
 
 -- "Tasks are numbered 1, 2, 3 in fork order."

@@ -8,8 +8,7 @@ use mathlib.Core.Logic.{_⊎_, inl, inr, _≢_, _↔_}
 use native.Mathlib.Omega.{arith}
 use lib.ListN.{length}
 use Rattle.trace.specs.Trace.{Trace, Event, FORK, JOIN, HALT, isAccess, LOCATIONS, TASKS}
-use Rattle.trace.specs.Line.{Line}
-use Rattle.trace.specs.Line.{haltOperand as haltRule}
+use Rattle.trace.specs.Line.{resumed, haltOperand}
 use Rattle.trace.specs.Graph.{Reach}
 use Rattle.trace.proofs.Tests.{either}
 use Rattle.trace.proofs.EventKinds.{access-not-join}
@@ -18,7 +17,7 @@ use Rattle.trace.proofs.Stacks.{In, updated, updated-same, updated-other}
 use Rattle.trace.proofs.Tips.{ReachesTip}
 use Rattle.trace.proofs.Run.{Run, used-numbers, access, fork, join, halt}
 use Rattle.plan.specs.Plans.{Plan, leaf, pair, InRange}
-use Rattle.plan.specs.Events.{kindOf, event, haltOperand, forks, eventsFrom}
+use Rattle.plan.specs.Events.{kindOf, event, forks, eventsFrom}
 use Rattle.plan.specs.Leaves.{Leaf, here, of-left, of-right, events, position, InSeries}
 use Rattle.plan.specs.Decided.{IsLeaf}
 use Rattle.plan.specs.declared.Access.{Access}
@@ -78,7 +77,7 @@ module _ (tr : Trace) where
   record Parallels (a b : Plan) (x next n : ℕ) : Type 0 where
     forking : Is n (event FORK x next)
     one : Stand (n + 1) (eventsFrom a next (next + 1))
-    halting : Is (n + 1 + events a) (event HALT next (haltOperand x))
+    halting : Is (n + 1 + events a) (event HALT next x)
     two : Stand (n + 2 + events a) (eventsFrom b x (next + 1 + forks a))
     joining : Is (n + 2 + events a + events b) (event JOIN x next)
 
@@ -88,7 +87,7 @@ module _ (tr : Trace) where
       let fs = eventsFrom b x (next + 1 + forks a) in
       let l = events-length a next (next + 1) in
       let m = events-length b x (next + 1 + forks a) in
-      let i = stand-append (n + 1) es (event HALT next (haltOperand x) ∷ (fs ++ (event JOIN x next ∷ []))) (s .1) in
+      let i = stand-append (n + 1) es (event HALT next x ∷ (fs ++ (event JOIN x next ∷ []))) (s .1) in
       let j = stand-append (n + 1 + length es + 1) fs (event JOIN x next ∷ []) (i .1 .1) in
       record {
         forking = s .0;
@@ -114,7 +113,7 @@ module _ (tr : Trace) where
   -- ---- one event of a run, told by its task
 
   abbrev RunOf : ℕ → List ℕ → List ℕ → List ℕ → (ℕ → ℕ) → Type 0
-  RunOf n left active used last = Run haltRule tr n left active used last
+  RunOf n left active used last = Run haltOperand tr n left active used last
 
   moved : {m n : ℕ} {left active used : List ℕ} {last : ℕ → ℕ} → m ≡ n → RunOf m left active used last → RunOf n left active used last
   moved {left = left} {active = active} {used = used} {last = last} e r = subst (λ (z : ℕ). RunOf z left active used last) e r
@@ -128,9 +127,9 @@ module _ (tr : Trace) where
   fork-as i small new run =
       rw (i .task-is, i .operand-is) at (fork (rw (← i .task-is) at run) (i .kind-is) (rw (i .operand-is) small) (rw (i .operand-is) new))
 
-  halt-as : {n x y : ℕ} {left paused used : List ℕ} {last : ℕ → ℕ} → Is n (event HALT x (haltOperand y)) →
+  halt-as : {n x y : ℕ} {left paused used : List ℕ} {last : ℕ → ℕ} → Is n (event HALT x y) →
       RunOf n left (x ∷ (y ∷ paused)) used last → RunOf (suc n) (x ∷ left) (y ∷ paused) used (updated last x (suc n))
-  unfolding haltOperand haltRule
+  unfolding haltOperand resumed
   halt-as i run = rw (i .task-is) at (halt (rw (← i .task-is) at run) (i .kind-is) (i .operand-is))
 
   join-as : {n x v : ℕ} {left paused used : List ℕ} {last : ℕ → ℕ} → Is n (event JOIN x v) →
@@ -167,7 +166,7 @@ module _ (tr : Trace) where
 
     leaf-paths : (graph : ℕ) → Forward tr graph → n + 1 ≤ graph → Paths graph (leaf k l) n (last x) (updated last x (suc n) x)
     leaf-paths graph forward inside =
-        let s = stretch-event haltRule tr graph forward run (omega arith) (access-not-join (tr .kind n) leaf-access) in
+        let s = stretch-event haltOperand tr graph forward run (omega arith) (access-not-join (tr .kind n) leaf-access) in
         record {
           stretch = rw (updated-same last x (suc n) x refl) (rw (is .task-is) at s);
           leaves = one-leaf;
@@ -238,7 +237,7 @@ module _ (tr : Trace) where
   module _ (a b : Plan) (x next n : ℕ) {left paused used : List ℕ} {last : ℕ → ℕ} (run : RunOf n left (x ∷ paused) used last)
       (fresh : Fresh next used) (parts : Parallels a b x next n) where
     x-used : In x used
-    x-used = used-numbers haltRule tr run .of-active x (inl refl)
+    x-used = used-numbers haltOperand tr run .of-active x (inl refl)
 
     new : (t : ℕ) → In t used → t ≢ next
     new t i e = fresh t (omega arith) i
@@ -299,12 +298,12 @@ module _ (tr : Trace) where
           forking : Stretch tr graph n 1 (last x) (suc n)
           forking =
               let k = parts .forking .kind-is in
-              rw (parts .forking .task-is) at (stretch-event haltRule tr graph forward run (omega arith) (λ j. omega arith))
+              rw (parts .forking .task-is) at (stretch-event haltOperand tr graph forward run (omega arith) (λ j. omega arith))
 
           halting : Stretch tr graph (n + 1 + events a) 1 (one .last′ next) (suc (n + 1 + events a))
           halting =
               let k = parts .halting .kind-is in
-              rw (parts .halting .task-is) at (stretch-event haltRule tr graph forward (one .run) (omega arith) (λ j. omega arith))
+              rw (parts .halting .task-is) at (stretch-event haltOperand tr graph forward (one .run) (omega arith) (λ j. omega arith))
 
           child : Stretch tr graph (n + 1) (events a + 1) (suc n) (n + 1 + (events a + 1))
           child =
@@ -320,7 +319,7 @@ module _ (tr : Trace) where
           joining e h =
               let t = parts .joining .task-is in
               let o = parts .joining .operand-is in
-              let j = reach-joined haltRule tr graph forward (two .run) (omega arith) (parts .joining .kind-is) (inl o) e h in
+              let j = reach-joined haltOperand tr graph forward (two .run) (omega arith) (parts .joining .kind-is) (inl o) e h in
               let c = two .tips next child-used (λ q. new x x-used (sym q)) ∙ halted-child in
               rw (t, o, c) at j
 

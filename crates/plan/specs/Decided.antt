@@ -6,6 +6,7 @@ use mathlib.Core.List.{List}
 use mathlib.Core.Logic.{_↔_, _≢_}
 use lib.ListN.{length, take}
 use Rattle.trace.specs.Trace.{Event, Trace, traceOf, TASKS, MAX-EVENTS}
+use Rattle.trace.specs.Line.{haltOperand}
 use Rattle.trace.specs.Graph.{Reach}
 use Rattle.trace.specs.Outcome.{Reply, says, refused}
 use Rattle.trace.specs.Demands.{KeepsRules}
@@ -47,7 +48,7 @@ pub record IsLeaf (tr : Trace) (p : Plan) (x : Leaf p) (i : ℕ) : Type 0 where
 -- A trace of n events is that of a plan.
 pub record Traces (p : Plan) (tr : Trace) (n : ℕ) : Type 0 where
   -- It keeps the line rules,
-  pub keeps-rules : KeepsRules tr n
+  pub keeps-rules : KeepsRules haltOperand tr n
   -- has each leaf at its position,
   pub leaves : (x : Leaf p) → IsLeaf tr p x (position p x 0)
   -- and "Of two leaves, the first reaches the second exactly if the operator where they meet is S and the first is in its left operand."

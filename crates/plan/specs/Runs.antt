@@ -10,7 +10,7 @@ use Rattle.numbers.specs.Decimal.{decimal}
 use Rattle.numbers.specs.Reading.{digit, isWhole, extended}
 use Rattle.numbers.specs.Reading as numbers
 use Rattle.plan.specs.Plans.{Plan, leaf, pair, print}
-use Rattle.plan.specs.Events.{event, haltOperand, eventsOf}
+use Rattle.plan.specs.Events.{event, eventsOf}
 use Rattle.plan.specs.Leaves.{here, of-left, of-right, events, position, InSeries}
 use Rattle.plan.specs.Reading.{letterOf, Whole, accepted, rejected, whole}
 use Rattle.plan.specs.Tracing.{tooLarge, planned}
@@ -19,7 +19,7 @@ use Rattle.plan.specs.declared.Operator.the-variants.{Series, Parallel}
 
 -- Every definition that `planned` computes by: to unfold this one is to unfold them all.
 unfoldable pub computed : List ℕ → Slices → Translated
-unfolding planned whole letterOf digit isWhole numbers.tooLarge extended decimal tooLarge haltOperand store
+unfolding planned whole letterOf digit isWhole numbers.tooLarge extended decimal tooLarge store
 computed = planned
 
 -- ---- the request's example
@@ -73,14 +73,14 @@ example-planned = refl
 
 -- ---- "Tasks are numbered 1, 2, 3 in fork order."
 
--- `P(P(r1,r2),r3)`: 1 forks 2.
+-- `P(P(r1,r2),r3)`: 1 forks 2, and the halt of 2 names 1.
 pub fork-in-first :
     eventsOf (pair Parallel (pair Parallel (leaf Read 1) (leaf Read 2)) (leaf Read 3))
-    ≡ event 2 0 1 ∷ event 2 1 2 ∷ event 0 2 1 ∷ event 4 2 0 ∷ event 0 1 2 ∷ event 3 1 2 ∷ event 4 1 0 ∷ event 0 0 3 ∷ event 3 0 1 ∷ []
+    ≡ event 2 0 1 ∷ event 2 1 2 ∷ event 0 2 1 ∷ event 4 2 1 ∷ event 0 1 2 ∷ event 3 1 2 ∷ event 4 1 0 ∷ event 0 0 3 ∷ event 3 0 1 ∷ []
 unfolding computed
 fork-in-first = refl
 
--- `P(r1,P(r2,r3))`: 0 forks 1 and then 2, and joins them in the other order.
+-- `P(r1,P(r2,r3))`: 0 forks 1 and then 2, whose halts both name it, and joins them in the other order.
 pub fork-in-second :
     eventsOf (pair Parallel (leaf Read 1) (pair Parallel (leaf Read 2) (leaf Read 3)))
     ≡ event 2 0 1 ∷ event 0 1 1 ∷ event 4 1 0 ∷ event 2 0 2 ∷ event 0 2 2 ∷ event 4 2 0 ∷ event 0 0 3 ∷ event 3 0 2 ∷ event 3 0 1 ∷ []

@@ -20,7 +20,7 @@ use Rattle.numbers.specs.declared.NumberToken.{NumberToken}
 use Rattle.numbers.specs.declared.NumberToken.the-variants.{Value, NoNumber}
 use Rattle.numbers.proofs.Decimal.{number-printed}
 use Rattle.numbers.proofs.Tokens.{each-some, by-token}
-use Rattle.plan.specs.Events.{event, kindOf, haltOperand}
+use Rattle.plan.specs.Events.{event, kindOf}
 use Rattle.plan.specs.Reading.{letterOf, LAST-LOCATION}
 use Rattle.plan.specs.declared.Access.{Access}
 use Rattle.plan.specs.declared.Letter.{Letter}
@@ -102,13 +102,12 @@ module _ (from : Writer) (b : Slices) (at actor child : ℕ) where
 
   module _ (forked : child ≡ 0 → ⊥) where
     pub turn-room : Room b (from .count + length (halting (frame actor child))) → Room b (from .count + 1)
-    turn-room = one-room b (from .count) child (event HALT child (haltOperand actor)) forked
+    turn-room = one-room b (from .count) child (event HALT child actor) forked
 
-    pub turn-one : (operand : ℕ) → operand ≡ haltOperand actor → (b₁ : Slices) → b₁ ≡ store b (from .count) (event HALT child operand)
+    pub turn-one : (b₁ : Slices) → b₁ ≡ store b (from .count) (event HALT child actor)
         → writtenOf (writer at (from .next) (from .count + 1) actor (from .depth)) b₁ ≡ turned from b at (frame actor child)
-    turn-one operand e b₁ s =
-        moved-one from b b₁ (halting (frame actor child)) (event HALT child (haltOperand actor)) at actor (from .next) (from .depth) (of-one child _ forked)
-        (rw e at s)
+    turn-one b₁ s =
+        moved-one from b b₁ (halting (frame actor child)) (event HALT child actor) at actor (from .next) (from .depth) (of-one child _ forked) s
 
 -- ---- `close`
 

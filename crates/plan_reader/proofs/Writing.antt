@@ -8,7 +8,7 @@ use Rattle.trace.specs.Trace.{Event, TASKS, FORK, JOIN, HALT}
 use Rattle.numbers.specs.Decimal.{decimal}
 use Rattle.numbers.proofs.Decimal.{first, number-whole}
 use Rattle.plan.specs.Plans.{Plan, leaf, pair, print, accessLetter, operatorLetter, InRange, depth, LEVELS}
-use Rattle.plan.specs.Events.{event, kindOf, haltOperand, forks, eventsFrom, eventsOf}
+use Rattle.plan.specs.Events.{event, kindOf, forks, eventsFrom, eventsOf}
 use Rattle.plan.specs.Reading.{LAST-LOCATION, letterOf}
 use Rattle.plan.specs.declared.Operator.{Operator}
 use Rattle.plan.specs.declared.Operator.the-variants.{Series, Parallel}
@@ -59,15 +59,15 @@ plan-runs (pair Parallel a b) rest x (suc c) fs es h e positive low few r =
     let closing : stepOf (41 ∷ rest) (state x (after + forks b) (f ∷ fs)) ≡ goes (event JOIN x next ∷ []) rest (state x (after + forks b) fs) = rw close-other in
     let i = plan-runs b (41 ∷ rest) x after (f ∷ fs) (event JOIN x next ∷ es) (h .1) (ends-other b 41 close-no-digit) (omega arith) (omega arith) (omega arith)
     (steps closing (omega arith) (omega arith) (rw (← z) at r)) in
-    let middle : stepOf (44 ∷ bytes) (state next after (f ∷ fs)) ≡ goes (event HALT next (haltOperand x) ∷ []) bytes (state x after (f ∷ fs)) = rw comma-other in
-    let j = plan-runs a (44 ∷ bytes) next (next + 1) (f ∷ fs) (event HALT next (haltOperand x) ∷ (eventsFrom b x after ++ (event JOIN x next ∷ es))) (h .0)
+    let middle : stepOf (44 ∷ bytes) (state next after (f ∷ fs)) ≡ goes (event HALT next x ∷ []) bytes (state x after (f ∷ fs)) = rw comma-other in
+    let j = plan-runs a (44 ∷ bytes) next (next + 1) (f ∷ fs) (event HALT next x ∷ (eventsFrom b x after ++ (event JOIN x next ∷ es))) (h .0)
     (ends-other a 44 comma-no-digit)
     (omega arith) (omega arith) (omega arith) (steps middle (omega arith) (omega arith) i) in
     let opening : stepOf (operatorLetter Parallel ∷ (40 ∷ (print a ++ (44 ∷ bytes)))) (state x next fs)
     ≡ goes (event FORK x next ∷ []) (print a ++ (44 ∷ bytes)) (state next (next + 1) (f ∷ fs)) = rw (letter-operator Parallel) in
     rw (
       ← joined (print a) (print b) rest,
-      append-assoc (eventsFrom a next (next + 1)) (event HALT next (haltOperand x) ∷ (eventsFrom b x after ++ (event JOIN x next ∷ []))) es,
+      append-assoc (eventsFrom a next (next + 1)) (event HALT next x ∷ (eventsFrom b x after ++ (event JOIN x next ∷ []))) es,
       append-assoc (eventsFrom b x after) (event JOIN x next ∷ []) es,
     )
     (steps opening (omega arith) (omega arith) j)

@@ -11,7 +11,7 @@ use Rattle.trace.specs.Slices.{Slices, storeAll, Room}
 use Rattle.numbers.specs.Options.{maybe}
 use Rattle.numbers.specs.Reading.{number}
 use Rattle.plan.specs.Plans.{Plan, LEVELS, IsPlan}
-use Rattle.plan.specs.Events.{kindOf, event, haltOperand, forks, eventsOf}
+use Rattle.plan.specs.Events.{kindOf, event, forks, eventsOf}
 use Rattle.plan.specs.Reading.{letterOf, LAST-LOCATION}
 use Rattle.plan.specs.declared.Access.{Access}
 use Rattle.plan.specs.declared.Operator.{Operator}
@@ -36,9 +36,9 @@ abbrev pub ofChild : ℕ → Event → List Event
 ofChild zero e = []
 ofChild (suc c) e = e ∷ []
 
--- Between the operands the forked task halts, and after them it is joined.
+-- Between the operands the forked task halts, and its halt names the task that resumes. After them it is joined.
 abbrev pub halting : Frame → List Event
-halting f = ofChild (f .child) (event HALT (f .child) (haltOperand (f .actor)))
+halting f = ofChild (f .child) (event HALT (f .child) (f .actor))
 
 abbrev pub joining : Frame → List Event
 joining f = ofChild (f .child) (event JOIN (f .actor) (f .child))

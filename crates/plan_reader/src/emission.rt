@@ -19,7 +19,7 @@ ghost use Prim.Native.Nat.{_+_, _*_, _≤_, _<_};
 ghost use lib.ListN.{drop, length, set};
 ghost use Rattle.trace.specs.Slices.{slices, Room};
 ghost use Rattle.trace.specs.Trace.{TASKS};
-ghost use Rattle.plan.specs.Events.{kindOf, haltOperand};
+ghost use Rattle.plan.specs.Events.{kindOf};
 ghost use Rattle.plan_reader.specs.Machine.{frame, halting, joining, adds, stepOf, STACK-CELLS, stateOf};
 ghost use Rattle.plan_reader.specs.Machine.{writtenOf, turned, closed, opened, pushed, Stands, Goes, After, AfterLeaf, Ready, Emitted};
 
@@ -43,13 +43,6 @@ fn kind_of(access: Access) -> u8
         Access::Write => WRITE,
         Access::Sum => SUM,
     }
-}
-
-// The operand of the halt after which this task resumes.
-fn halt_operand(resumes: u16) -> u16
-    ensures { λ r. ⌜ r ≡ haltOperand resumes ⌝ }
-{
-    0
 }
 
 // A leaf is one event.
@@ -139,7 +132,7 @@ fn enter(
     }
 }
 
-// Between the operands: the task that P forked halts, and its parent "goes on with G2".
+// Between the operands: the task that P forked halts, and its parent "goes on with G2". The halt names the parent, "the task that resumes".
 fn turn(
     from: Writer,
     at: usize,
@@ -163,8 +156,7 @@ fn turn(
             depth: from.depth,
         };
     }
-    let resumes = halt_operand(actor);
-    store_event(kinds, tasks, operands, count, HALT, child, resumes);
+    store_event(kinds, tasks, operands, count, HALT, child, actor);
     Writer {
         at,
         next: from.next,

@@ -32,7 +32,7 @@ use Rattle.line.specs.Cells.{depths, startedIn}
 use Rattle.line.specs.Steps.{rowed, afterIn, Movable, eventIn}
 use Rattle.line.specs.Held.{StackAt, LineAt, SameFree}
 use Rattle.line.proofs.Moves.{stack-frame, line-frame, free-beyond, start-free}
-use Rattle.line.proofs.EventLaw.{line-start}
+use Rattle.line.proofs.EventLaw.{own-operand, line-start}
 use Rattle.line.proofs.Events.{event-broken, event-unchanged, event-next, event-kind, event-active, event-movable, event-free}
 use Rattle.ranks.specs.Lists.{FORKS, HALTS, NEXT, SEGMENTS, sourceIn, pushedIn, openedIn, Openable}
 use Rattle.ranks.specs.States.{ListAt, Begun, TakeSays, ListSays}
@@ -106,30 +106,30 @@ module _ (tr : Trace) (n : ℕ) (c : List ℕ) (line : Line) (g : ℕ) (t : List
   next = afterIn line (ruleOf (tr .kind n))
 
   free : SameFree c d
-  free = event-free (t .at) next row d e
+  free = event-free (t .at) (own-operand tr n) next row d e
 
   -- It breaks a rule.
   pub list-broken : row ≢ 0 → TakeSays tr n c d line g row
   list-broken some =
-      let unchanged = event-unchanged (t .at) next row d e some in
+      let unchanged = event-unchanged (t .at) (own-operand tr n) next row d e some in
       record {
         beyond = rest-eq 0 c d unchanged;
         kept = λ z. absurd (some z);
-        broken = λ z. (unchanged, event-broken (t .at) next row d e some);
+        broken = λ z. (unchanged, event-broken (t .at) (own-operand tr n) next row d e some);
       }
 
   module _ (none : row ≡ 0) where
-    at-next : LineAt tr (suc n) d next
-    at-next = event-next (t .at) next row d e none
+    at-next : LineAt haltOperand tr (suc n) d next
+    at-next = event-next (t .at) (own-operand tr n) next row d e none
 
     some-active : 0 < line .active
-    some-active = event-active (t .at) next row d e none
+    some-active = event-active (t .at) (own-operand tr n) next row d e none
 
     can-move : Movable line (tr .kind n)
-    can-move = event-movable (t .at) next row d e none
+    can-move = event-movable (t .at) (own-operand tr n) next row d e none
 
     pub list-named : isKind (tr .kind n) ≡ true
-    list-named = event-kind (t .at) next row d e none
+    list-named = event-kind (t .at) (own-operand tr n) next row d e none
 
     -- It is an access: nothing else is stored.
     pub list-access : isAccess (tr .kind n) ≡ true → TakeSays tr n c d line g 0
@@ -219,7 +219,7 @@ module _ (tr : Trace) (n : ℕ) (c : List ℕ) (line : Line) (g : ℕ) (t : List
           (holding-move tr NEXT n pushed a (omega (arith, few-g, room, pushed-length d line k g))
           (holding-frame tr NEXT n d pushed (λ i h. pushed-list d line k g some-active few-active few-left (NEXT + i) (omega arith)) (list-still c t d free)))
 
-      line-next : LineAt tr (suc n) (openedIn d line k g) next
+      line-next : LineAt haltOperand tr (suc n) (openedIn d line k g) next
       line-next =
           line-frame {c = d} {d = openedIn d line k g} (omega (arith, room, opened-length d line k g))
           (opened-line d line k g some-active few-active few-left) at-next
@@ -293,7 +293,7 @@ begun {entry} room started stored =
           record {
             at =
                 line-frame {c = c} {d = set c (NEXT + 0) 0} (omega (arith, length-set c (NEXT + 0) 0))
-                (λ i w. getD-set-other c (NEXT + 0) i 0 0 (λ e. either w (λ h. omega arith) (λ h. omega arith))) (line-start tr entry room);
+                (λ i w. getD-set-other c (NEXT + 0) i 0 0 (λ e. either w (λ h. omega arith) (λ h. omega arith))) (line-start haltOperand tr entry room);
             current = refl;
             list = holding-start tr NEXT c (omega arith);
             forks = tt;

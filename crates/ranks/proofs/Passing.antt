@@ -25,7 +25,7 @@ use Rattle.ranks.specs.States.{SomeStops, Leading, ListAt}
 
 module _ {tr : Trace} {c : List ℕ} {line : Line} where
   -- After an access its task runs on.
-  runs-on : {q : ℕ} → LineAt tr (suc q) c line → isAccess (tr .kind q) ≡ true → (0 < line .active) × (tr .task q ≡ runningIn c line)
+  runs-on : {q : ℕ} → LineAt haltOperand tr (suc q) c line → isAccess (tr .kind q) ≡ true → (0 < line .active) × (tr .task q ≡ runningIn c line)
   runs-on at k =
       let first = access-runs-on haltOperand tr (at .run) k in
       let cells = subst (λ (l : List ℕ). LineCells c line (at .left) l (at .used)) (first .1) (at .cells) in

@@ -25,7 +25,7 @@ use Rattle.ranks.specs.Lists.{FORKS, HALTS, NEXT, SEGMENTS}
 
 -- After n events: the line, the list of the segments, and the two stacks of segments. Segment g is open.
 pub record ListAt (tr : Trace) (n : ℕ) (c : List ℕ) (line : Line) (g : ℕ) : Type 0 where
-  pub at : LineAt tr n c line
+  pub at : LineAt haltOperand tr n c line
   pub current : g ≡ moves tr n
   pub list : Holding tr NEXT n c
   pub forks : StackAt c FORKS (segments tr n .forks)
@@ -51,13 +51,13 @@ pub record TakeSays (tr : Trace) (n : ℕ) (entry exit : List ℕ) (line : Line)
   pub beyond : SameBeyond entry exit
   pub kept : row ≡ 0 →
       Movable line (tr .kind n) × ListAt tr (suc n) exit (afterIn line (ruleOf (tr .kind n))) (cond (isAccess (tr .kind n)) g (suc g))
-  pub broken : row ≢ 0 → (exit ≡ entry) × BreaksFirst tr n row
+  pub broken : row ≢ 0 → (exit ≡ entry) × BreaksFirst haltOperand tr n row
 
 -- All of the n events keep the rules, or those before this one do and it meets the row.
 pub record RulesSay (tr : Trace) (n events row : ℕ) : Type 0 where
   pub graph : events ≡ graphEvents haltOperand tr n
-  pub none-met : row ≡ 0 → (events ≡ n) × KeepsRules tr n
-  pub met : row ≢ 0 → (events < n) × BreaksFirst tr events row
+  pub none-met : row ≡ 0 → (events ≡ n) × KeepsRules haltOperand tr n
+  pub met : row ≢ 0 → (events < n) × BreaksFirst haltOperand tr events row
 
 -- So the rules say, and the cells hold the list of these events' segments.
 pub record ListSays (tr : Trace) (n : ℕ) (entry exit : List ℕ) (events row : ℕ) : Type 0 where

@@ -7,10 +7,11 @@ use native.Mathlib.Omega.{arith}
 use lib.ListN.{getD, drop}
 use borrow.Author.Tests.{leb-true, le-leb}
 use Rattle.trace.specs.Trace.{Trace, traceOf, isAccess}
+use Rattle.trace.specs.Graph.{graphEvents}
 use Rattle.trace.specs.Line.{haltOperand}
 use Rattle.trace.specs.Race.{conflicting, Conflict, Race, InD}
 use Rattle.trace.specs.Outcome.{inD?, schedule}
-use Rattle.trace.specs.Demands.{NoRaceBefore, graphOf}
+use Rattle.trace.specs.Demands.{NoRaceBefore}
 use Rattle.trace.proofs.Tests.{Tests, tests-map, tests-fails, tests-unique, test-lt, test-eq, test-self, test-and, test-or, test-not}
 use Rattle.trace.proofs.Lines.{passes-earlier, graph-le, graph-kept}
 use Rattle.trace.proofs.Numbers.{Numbers, race-by-number, in-d-by-number}
@@ -85,14 +86,14 @@ module _ (kinds tasks operands c : List ℕ) (m t : ℕ) where
           (λ p h. tests-unique _ _ (test-D p (omega arith)) (test-in-D tr m (numbers .forward) s t p)))
 
     -- What `report` leaves, of n events of which the graph has m.
-    pub reported : {b₁ a₁ b₂ a₂ : List ℕ} {s : ℕ} (n : ℕ) → m ≡ graphOf tr n → NoRaceBefore tr m t
+    pub reported : {b₁ a₁ b₂ a₂ : List ℕ} {s : ℕ} (n : ℕ) → m ≡ graphEvents haltOperand tr n → NoRaceBefore tr m t
         → ReportedIn kinds operands c b₁ a₁ b₂ a₂ s t → Reported tr n b₁ a₁ b₂ a₂ s t
     reported {b₁} {b₂ = b₂} {s = s} n whole none r =
         let first = r .partner in
         let before = first .earlier in
         let few = graph-le haltOperand tr n in
         let all = graph-kept haltOperand tr n in
-        let kept = passes-earlier haltOperand tr (suc t) (graphOf tr n) (all .0) (omega arith) (all .1) in
+        let kept = passes-earlier haltOperand tr (suc t) (graphEvents haltOperand tr n) (all .0) (omega arith) (all .1) in
         record {
           pair =
               record {

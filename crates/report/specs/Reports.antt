@@ -8,10 +8,12 @@ use lib.Dec.{eqb, leb, ltb}
 use lib.ListN.{length, getD, drop}
 use lib.Seq.{sets}
 use Rattle.trace.specs.Trace.{Trace, isAccess}
+use Rattle.trace.specs.Graph.{graphEvents}
+use Rattle.trace.specs.Line.{haltOperand}
 use Rattle.trace.specs.Race.{conflicting}
 use Rattle.trace.specs.Orders.{countUp, positions, select}
 use Rattle.trace.specs.Outcome.{inD?, other?, schedule}
-use Rattle.trace.specs.Demands.{graphOf, IsRace}
+use Rattle.trace.specs.Demands.{IsRace}
 use Rattle.cells.specs.Cells.{numberIn}
 
 -- The number of event p is no larger than that of event e: where the numbers tell paths and p stands before e, p reaches e.
@@ -91,6 +93,6 @@ pub record ReportedIn (kinds operands c b₁ a₁ b₂ a₂ : List ℕ) (s t : �
 
 -- In the documents' terms.
 pub record Reported (tr : Trace) (n : ℕ) (b₁ a₁ b₂ a₂ : List ℕ) (s t : ℕ) : Type 0 where
-  pub pair : IsRace tr n s t
-  pub first : a₁ ≡ schedule (inD? tr (graphOf tr n) s t) s t s t ++ drop (suc t) b₁
-  pub second : a₂ ≡ schedule (inD? tr (graphOf tr n) s t) s t t s ++ drop (suc t) b₂
+  pub pair : IsRace haltOperand tr n s t
+  pub first : a₁ ≡ schedule (inD? tr (graphEvents haltOperand tr n) s t) s t s t ++ drop (suc t) b₁
+  pub second : a₂ ≡ schedule (inD? tr (graphEvents haltOperand tr n) s t) s t t s ++ drop (suc t) b₂

@@ -1,6 +1,7 @@
 // The buffers that a call is lent: dirty before it, and afterwards held to what the call must leave, with some cells behind those that are lent.
 use crate::Call;
 use crate::FIRST;
+use crate::OPERANDS;
 use crate::RACE;
 use crate::REFUSED;
 use crate::Reply;
@@ -15,7 +16,7 @@ use test_cells::plus;
 use test_cells::put;
 
 // Cells behind those that are lent, which must stay as they are.
-const SPARE: usize = 8;
+pub const SPARE: usize = 8;
 
 // What a cell holds before a call: of four kinds of dirt by the salt, from flags to numbers of any size.
 fn dirt(i: usize, salt: usize) -> usize {
@@ -122,4 +123,14 @@ pub fn holds_orders(
         n,
     );
     holds(first, memory, one) & holds(second, memory, other)
+}
+
+// Whether the operands are as the conversion must leave them: those of the memory from a place on, and some behind those that are lent.
+pub fn holds_operands(operands: &[u16], call: Call, from: usize, memory: &[usize]) -> bool {
+    let lent = call.sizes.operands;
+    holds(
+        operands,
+        memory,
+        expect(call, OPERANDS, lent, from, plus(lent, SPARE)),
+    )
 }

@@ -1,5 +1,5 @@
-// The runs that document 01 tells, as a table: each trace with its answer and its links, and with both orders where they are told. Document 01 tells no links:
-// they are drawn by hand from document 02's K2. Where it has kind 5 it is read with kind 6, as K3 says.
+// The runs that document 01 tells, and those for the halts of document 02's K6, as a table: each trace with its answer and its links, and with both orders where
+// they are told. Document 01 tells no links: they are drawn by hand from document 02's K2. Where it has kind 5 it is read with kind 6, as K3 says.
 use crate::REFUSED;
 use crate::Reply;
 use crate::make_reply;
@@ -62,16 +62,34 @@ pub fn read_runs(cells: &mut [u16]) -> usize {
 # A paused parent's accesses before the fork taken as unordered with its child's
 3 0 CLEAN 0 0 0: 0 write 5, 0 fork 1, 1 write 5
 4 0 CLEAN 0 0 0: 0 write 5, 0 fork 1, 1 read 5, 1 halt 0
-5 0 CLEAN 0 0 0: 0 read 5, 0 fork 1, 1 fork 2, 2 write 5, 2 halt 0
+5 0 CLEAN 0 0 0: 0 read 5, 0 fork 1, 1 fork 2, 2 write 5, 2 halt 1
 # the accesses of two children of one parent
 5 0 RACE 1 4 0: 0 fork 1, 1 write 5, 1 halt 0, 0 fork 2, 2 read 5
+# A halt's operand names the task that resumes: a nest of three that names each parent
+7 0 CLEAN 0 0 0: 0 fork 1, 1 fork 2, 2 fork 3, 3 halt 2, 2 halt 1, 1 halt 0, 0 halt 0
+# the inner halt with 0; the second with 0, the bottom of the stack; the inner one with the task above that, with itself, with 1,024 more than is right
+7 0 REFUSED 12 3 0: 0 fork 1, 1 fork 2, 2 fork 3, 3 halt 0, 2 halt 1, 1 halt 0, 0 halt 0
+7 0 REFUSED 12 4 0: 0 fork 1, 1 fork 2, 2 fork 3, 3 halt 2, 2 halt 0, 1 halt 0, 0 halt 0
+7 0 REFUSED 12 3 0: 0 fork 1, 1 fork 2, 2 fork 3, 3 halt 1, 2 halt 1, 1 halt 0, 0 halt 0
+7 0 REFUSED 12 3 0: 0 fork 1, 1 fork 2, 2 fork 3, 3 halt 3, 2 halt 1, 1 halt 0, 0 halt 0
+7 0 REFUSED 12 3 0: 0 fork 1, 1 fork 2, 2 fork 3, 3 halt 1026, 2 halt 1, 1 halt 0, 0 halt 0
+# a child of task 0 that names itself; for task 0's own halt it is 0
+7 0 REFUSED 12 5 0: 0 fork 1, 1 fork 2, 2 fork 3, 3 halt 2, 2 halt 1, 1 halt 1, 0 halt 0
+7 0 REFUSED 12 6 0: 0 fork 1, 1 fork 2, 2 fork 3, 3 halt 2, 2 halt 1, 1 halt 0, 0 halt 1
+# not the task at the left, nor the one that halted last
+6 0 CLEAN 0 0 0: 0 fork 1023, 1023 fork 2, 2 halt 1023, 1023 fork 1, 1 halt 1023, 1023 halt 0
+5 0 REFUSED 12 4 0: 0 fork 1023, 1023 fork 2, 2 halt 1023, 1023 fork 1, 1 halt 2
+# rows 6 and 7 before row 12, and a race before it
+2 0 REFUSED 6 1 0: 0 halt 0, 0 halt 1
+3 0 REFUSED 7 2 0: 0 fork 1, 1 fork 2, 1 halt 2
+6 0 RACE 2 4 0: 0 fork 1, 1 fork 2, 2 write 5, 2 halt 1, 1 write 5, 1 halt 1
 ",
         cells,
     )
 }
 
 // Runs told wrong: the answer, a cell of the first order, a cell of the second; the links of a clean trace and of a race, too many and too few; links beside a
-// refusal; and what a judge would answer that takes sums for something else.
+// refusal; and what a judge would answer that takes sums for something else, or what a halt names.
 pub fn read_wrong_runs(cells: &mut [u16]) -> usize {
     read_table(
         b"
@@ -103,6 +121,17 @@ pub fn read_wrong_runs(cells: &mut [u16]) -> usize {
 1 0 CLEAN 0 0 0: 0 sum 1024
 # the two orders are exchanged
 4 4 RACE 1 3 0: 0 fork 1, 1 sum 5, 1 halt 0, 0 read 5; 0 3 1 2; 0 1 3 2
+# row 12 is held against 0, as it was, which is the bottom of the stack
+3 0 REFUSED 12 2 0: 0 fork 1, 1 fork 2, 2 halt 1
+3 0 CLEAN 0 0 0: 0 fork 1, 1 fork 2, 2 halt 0
+# against the task above that
+4 0 REFUSED 12 3 0: 0 fork 1, 1 fork 2, 2 fork 3, 3 halt 2
+4 0 CLEAN 0 0 0: 0 fork 1, 1 fork 2, 2 fork 3, 3 halt 1
+# against the task that halts
+2 0 REFUSED 12 1 0: 0 fork 1, 1 halt 0
+2 0 CLEAN 0 0 0: 0 fork 1, 1 halt 1
+# against nothing
+1 0 CLEAN 0 0 0: 0 halt 1
 ",
         cells,
     )
@@ -141,16 +170,25 @@ pub fn next_run(cells: &[u16], at: usize) -> usize {
     plus(orders_at(cells, at), orders_count(cells, at))
 }
 
-// Whether the slow judge's two orders are those that the table tells of the run at a cell.
-pub fn orders_told(cells: &[u16], at: usize, memory: &[usize]) -> bool {
-    let from = orders_at(cells, at);
-    let n = orders_count(cells, at);
+// Whether n cells of the table are those of the memory from a place on.
+pub fn cells_told(cells: &[u16], from: usize, n: usize, place: usize, memory: &[usize]) -> bool {
     let mut i = 0;
     while i < n {
-        if get(cells, plus(from, i)) != get_word(memory, plus(test_slow::ORDERS, i)) {
+        if get(cells, plus(from, i)) != get_word(memory, plus(place, i)) {
             return false;
         }
         i += 1;
     }
     true
+}
+
+// Whether the slow judge's two orders are those that the table tells of the run at a cell.
+pub fn orders_told(cells: &[u16], at: usize, memory: &[usize]) -> bool {
+    cells_told(
+        cells,
+        orders_at(cells, at),
+        orders_count(cells, at),
+        test_slow::ORDERS,
+        memory,
+    )
 }

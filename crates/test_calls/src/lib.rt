@@ -13,6 +13,7 @@ pub mod table;
 
 use test_cells::plus;
 use test_slow::Sizes;
+use test_slow::rules::Halts;
 use trace::Answer;
 use trace::Ordering;
 use trace::Refusal;
@@ -115,6 +116,9 @@ pub const LATEST: usize = 8;
 
 pub const DUE: usize = 9;
 
+// Of the conversion the operands.
+pub const OPERANDS: usize = 10;
+
 // A call: of the judge, or of the ordering call for p and q; how many cells it is lent; a salt for the dirt; and what must come of it, where that is told.
 pub struct Call {
     pub ordering: bool,
@@ -197,7 +201,7 @@ pub fn wanted(
         ));
     }
     wanted_of(
-        test_slow::judge(kinds, tasks, operands, call.sizes, memory),
+        test_slow::judge(kinds, tasks, operands, call.sizes, Halts::Named, memory),
         call,
     )
 }

@@ -11,7 +11,7 @@ pub fn lay_nest(events: &mut [u16]) {
     let mut k = 0;
     while k < 1023 {
         put_one(events, k, k, FORK, k + 1);
-        put_one(events, 1024 + k, 1023 - k, HALT, 0);
+        put_one(events, 1024 + k, 1023 - k, HALT, 1022 - k);
         k += 1;
     }
     put_one(events, 1023, 1023, WRITE, 6);

@@ -7,6 +7,7 @@ use crate::FIRST;
 use crate::LATEST;
 use crate::NO;
 use crate::NO_BUFFER;
+use crate::OPERANDS;
 use crate::RACE;
 use crate::READS;
 use crate::REFUSED;
@@ -50,11 +51,12 @@ fn number_of(word: usize) -> usize {
         // judge, order
         0x6a75646765 => 0,
         0x6f72646572 => 1,
-        // none, ws, first, second
+        // none, ws, first, second, operands
         0x6e6f6e65 => NO_BUFFER,
         0x7773 => WORKSPACE,
         0x6669727374 => FIRST,
         0x7365636f6e64 => SECOND,
+        0x6f706572616e6473 => OPERANDS,
         // reads, writes, sums, earliest, latest, due
         0x7265616473 => READS,
         0x777269746573 => WRITES,

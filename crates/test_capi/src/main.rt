@@ -44,23 +44,49 @@ fn ordering_agrees() -> bool {
     (order(0, 3) == 1) & (order(3, 0) == 0)
 }
 
-// The first two events of the example's text.
+// 0 fork 1, 1 write 5, 1 fork 2; then a line of task 0, before which two halts are put in: 2 halt 1, 1 halt 0, 0 read 5.
 fn translate_agrees() -> bool {
     let mut kinds = [9u8; 2048];
     let mut tasks = [9u16; 2048];
     let mut operands = [9u16; 2048];
     let mut values = [9u64; 2];
     let code = capi::racejudge_translate(
-        b"T0|fork(T1)|10\nT1|w(V5)|20\n",
+        b"T0|fork(T1)|10\nT1|w(V5)|20\nT1|fork(T2)|30\nT0|r(V5)|40\n",
         &mut kinds,
         &mut tasks,
         &mut operands,
         &mut values,
     );
-    let told = (code == 0) & (values[0] == 2) & (values[1] == 0);
+    let told = (code == 0) & (values[0] == 6) & (values[1] == 0);
     let first = (kinds[0] == 2) & (tasks[0] == 0) & (operands[0] == 1);
     let second = (kinds[1] == 1) & (tasks[1] == 1) & (operands[1] == 5);
-    told & first & second
+    let halt = (kinds[3] == 4) & (tasks[3] == 2) & (operands[3] == 1);
+    let last_halt = (kinds[4] == 4) & (tasks[4] == 1) & (operands[4] == 0);
+    told & first & second & halt & last_halt
+}
+
+// A stored trace: 0 fork 1, 1 fork 2, 2 halt. The halt gets 1.
+fn convert_agrees() -> bool {
+    let kinds = [2u8, 2, 4];
+    let tasks = [0u16, 1, 2];
+    let mut operands = [1u16, 2, 0];
+    let mut ws = [9u16; CELLS];
+    let mut values = [9u64; 2];
+    let code = capi::racejudge_convert(&kinds, &tasks, &mut operands, &mut ws, &mut values);
+    let told = (code == 0) & (values[0] == 0) & (values[1] == 0);
+    told & (operands[0] == 1) & (operands[1] == 2) & (operands[2] == 1) & (ws[0] == 0)
+}
+
+// The same in a workspace that is a cell too short: 3 at 0, and nothing is set.
+fn short_convert_agrees() -> bool {
+    let kinds = [2u8, 2, 4];
+    let tasks = [0u16, 1, 2];
+    let mut operands = [1u16, 2, 0];
+    let mut ws = [9u16; 12290];
+    let mut values = [9u64; 2];
+    let code = capi::racejudge_convert(&kinds, &tasks, &mut operands, &mut ws, &mut values);
+    let told = (code == 2) & (values[0] == 3) & (values[1] == 0);
+    told & (operands[2] == 0) & (ws[0] == 9)
 }
 
 // `P(r7,s9)`: 0 fork 1, 1 read 7, 1 halt, 0 sum 9, 0 join 1. Slices of three lengths, whose last cells stay.
@@ -98,8 +124,10 @@ fn main() {
     let two = with(one, ordering_agrees());
     let three = with(two, translate_agrees());
     let four = with(three, plan_agrees());
+    let five = with(four, broken_plan_agrees());
+    let six = with(five, convert_agrees());
     all_agree(
         b"C functions by the places of their parameters: ",
-        with(four, broken_plan_agrees()),
+        with(six, short_convert_agrees()),
     );
 }

@@ -1,5 +1,5 @@
-// The runs that document 01 tells, and those for the links and the sums of document 02's K2 and K3: each is answered as told where there are records enough,
-// with its cards after clean, and else refused by 16.
+// The runs that document 01 tells, and those for the links, the sums and the halts of document 02's K2, K3 and K6: each is answered as told where there are
+// records enough, with its cards after clean, and else refused by 16.
 use crate::lending::all_answer;
 use test_calls::chains;
 use test_calls::judging;
@@ -44,7 +44,7 @@ fn go_through(cells: &[u16], count: usize) -> Outcome {
 }
 
 pub fn try_all() -> Outcome {
-    let mut cells = [0u16; 640];
+    let mut cells = [0u16; 1024];
     let count = read_runs(&mut cells);
     go_through(&cells, count)
 }

@@ -59,7 +59,10 @@ fn try_random() {
 }
 
 fn main() {
-    if !all_agree(b"runs that document 01 tells: ", known::try_all()) {
+    if !all_agree(
+        b"runs that document 01 tells, and runs for the halts: ",
+        known::try_all(),
+    ) {
         return;
     }
     if !all_agree(b"runs for the links: ", known::try_chains()) {

@@ -61,7 +61,7 @@ fn judged_in(
 }
 
 // The judge's answer, or MISMATCH. Arrays are lent whole as arrays: as slices each would have its length proved.
-fn judged(
+pub fn judged(
     kinds: &[u8],
     tasks: &[u16],
     operands: &[u16],

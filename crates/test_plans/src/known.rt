@@ -216,8 +216,8 @@ pub fn trace_agrees(i: usize, group: usize, memory: &mut [usize]) -> bool {
             memory,
         ),
         1 => trace_told(
-            b"P(P(r1,w2),s3)",
-            b"201 212 021 420 112 312 410 503 301 ",
+            b"P(P(P(r1,w2),s3),r4)",
+            b"201 212 223 031 432 122 323 421 513 312 410 004 301 ",
             group,
             memory,
         ),

@@ -115,16 +115,12 @@ fn no_event() -> Event {
     make_event(0, NONE, 0)
 }
 
-// The halt at the comma and the join at the bracket of the P whose letter stands at a place. "For halt it is 0."
+// The halt at the comma and the join at the bracket of the P whose letter stands at a place. "A halt's operand now names the task that resumes".
 fn end_of(memory: &[usize], letter: usize, byte: usize, at: usize, plant: usize) -> Event {
     let child = actor(memory, more(letter), plant);
     let parent = actor(memory, at, plant);
     if byte == COMMA {
-        return make_event(
-            child,
-            HALT,
-            if plant == wrong::RESUMES { parent } else { 0 },
-        );
+        return make_event(child, HALT, if plant == wrong::ZERO { 0 } else { parent });
     }
     make_event(
         parent,

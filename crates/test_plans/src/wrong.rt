@@ -27,12 +27,12 @@ pub const TASKS_SHORT: usize = 10;
 
 pub const OPERANDS_SHORT: usize = 11;
 
-// A child has its number late, once the tasks of its plan have theirs; a join is left out; a halt names the task that resumes; one event more is told.
+// A child has its number late, once the tasks of its plan have theirs; a join is left out; a halt has 0, the bottom of the stack; one event more is told.
 pub const LATE: usize = 12;
 
 pub const NO_JOIN: usize = 13;
 
-pub const RESUMES: usize = 14;
+pub const ZERO: usize = 14;
 
 pub const COUNT: usize = 15;
 

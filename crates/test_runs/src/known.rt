@@ -1,5 +1,5 @@
-// The runs that document 01 tells, and those for the links and the sums of document 02's K2 and K3: each trace with its answer, and with both orders where they
-// are told. Each is also judged by the slow judge, and asked about every pair of positions.
+// The runs that document 01 tells, and those for the links, the sums and the halts of document 02's K2, K3 and K6: each trace with its answer, and with both
+// orders where they are told. Each is also judged by the slow judge, and asked about every pair of positions.
 use test_calls::REFUSED;
 use test_calls::asking;
 use test_calls::chains;
@@ -78,7 +78,7 @@ fn past_the_end(memory: &mut [usize]) -> bool {
 }
 
 pub fn try_all(memory: &mut [usize]) -> Outcome {
-    let mut cells = [0u16; 640];
+    let mut cells = [0u16; 1024];
     let count = read_runs(&mut cells);
     if !past_the_end(memory) {
         return make_outcome(0, false);
@@ -101,7 +101,7 @@ pub fn try_sums(memory: &mut [usize]) -> Outcome {
 
 // That a run does not agree is noticed, whether its answer is told wrong, its links, or one of its orders.
 pub fn try_wrong(memory: &mut [usize]) -> Outcome {
-    let mut cells = [0u16; 512];
+    let mut cells = [0u16; 640];
     let count = read_wrong_runs(&mut cells);
     go_through(&cells, count, false, memory)
 }

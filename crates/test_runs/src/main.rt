@@ -10,6 +10,7 @@ mod sizes;
 mod tables;
 
 use libc::STDOUT_FILENO;
+use random::COUNTS;
 use random::count_at;
 use test_cells::plus;
 use test_outcome::all_agree;
@@ -18,7 +19,7 @@ use test_outcome::make_outcome;
 use test_outcome::print;
 use test_outcome::print_all;
 
-fn print_refusal(counts: [usize; 86], from: usize, number: usize) {
+fn print_refusal(counts: [usize; COUNTS], from: usize, number: usize) {
     io::write_all(STDOUT_FILENO, b"  refused ");
     io::print_decimal(STDOUT_FILENO, number as u64);
     print(
@@ -27,7 +28,7 @@ fn print_refusal(counts: [usize; 86], from: usize, number: usize) {
     );
 }
 
-fn print_refusals(counts: [usize; 86], from: usize) {
+fn print_refusals(counts: [usize; COUNTS], from: usize) {
     let mut number = 1;
     while number < 14 {
         print_refusal(counts, from, number);
@@ -36,7 +37,7 @@ fn print_refusals(counts: [usize; 86], from: usize) {
 }
 
 // The races by the kind of their earlier access, each with a later read, write and sum.
-fn print_races(counts: [usize; 86]) {
+fn print_races(counts: [usize; COUNTS]) {
     print_all(
         b"    of a read with a later read, write, sum:",
         &counts[random::READ_RACES..random::WRITE_RACES],
@@ -45,10 +46,10 @@ fn print_races(counts: [usize; 86]) {
         b"    of a write:",
         &counts[random::WRITE_RACES..random::SUM_RACES],
     );
-    print_all(b"    of a sum:", &counts[random::SUM_RACES..]);
+    print_all(b"    of a sum:", &counts[random::SUM_RACES..random::HALTS]);
 }
 
-fn print_judge(counts: [usize; 86]) {
+fn print_judge(counts: [usize; COUNTS]) {
     print(b"  events of a trace, at most: ", test_slow::EVENTS);
     print(b"  events in all: ", count_at(counts, random::EVENTS));
     print(b"  sums among them: ", count_at(counts, random::SUMS));
@@ -60,9 +61,13 @@ fn print_judge(counts: [usize; 86]) {
         &counts[random::LINKS..random::READ_RACES],
     );
     print_refusals(counts, 0);
+    print_all(
+        b"  refused 12 of a halt that names 0, itself, another task, no task:",
+        &counts[random::HALTS..],
+    );
 }
 
-fn print_ordering(counts: [usize; 86]) {
+fn print_ordering(counts: [usize; COUNTS]) {
     print(b"pairs of each trace: ", random::PAIRS);
     print(
         b"  yes: ",
@@ -87,7 +92,10 @@ fn try_random(memory: &mut [usize]) {
 }
 
 fn try_known(memory: &mut [usize]) -> bool {
-    all_agree(b"runs that document 01 tells: ", known::try_all(memory))
+    all_agree(
+        b"runs that document 01 tells, and runs for the halts: ",
+        known::try_all(memory),
+    )
 }
 
 fn try_chains(memory: &mut [usize]) -> bool {

@@ -13,6 +13,7 @@ use test_compare::compare;
 use test_samples::draws::next;
 use test_samples::draws::seed_of;
 use test_samples::draws::stream;
+use test_samples::events::Event;
 use test_samples::events::SUM;
 use test_samples::events::event_at;
 use test_samples::make;
@@ -23,7 +24,8 @@ pub const TRACES: usize = 10000;
 pub const PAIRS: usize = 4;
 
 // Counts of answers: the judge's cases from cell 0 on, the ordering call's from ORDERING on; then all the events, and the sums among them; from LINKS on the
-// clean traces and races by the number of their links; then the races by their kinds: of a read with a later read, write and sum, of a write, and of a sum.
+// clean traces and races by the number of their links; then the races by their kinds: of a read with a later read, write and sum, of a write, and of a sum; then
+// the refusals by row 12 by what the halt names: 0, itself, another task, no task.
 pub const ORDERING: usize = 32;
 
 pub const EVENTS: usize = 64;
@@ -38,18 +40,22 @@ pub const WRITE_RACES: usize = 80;
 
 pub const SUM_RACES: usize = 83;
 
+pub const HALTS: usize = 86;
+
+pub const COUNTS: usize = 90;
+
 // The counts so far, and whether all answers agreed.
 pub struct Tally {
-    pub counts: [usize; 86],
+    pub counts: [usize; COUNTS],
     pub agreed: bool,
 }
 
-pub fn count_at(counts: [usize; 86], i: usize) -> usize {
-    if i < 86 { counts[i] } else { 0 }
+pub fn count_at(counts: [usize; COUNTS], i: usize) -> usize {
+    if i < COUNTS { counts[i] } else { 0 }
 }
 
-fn count(mut counts: [usize; 86], i: usize, more: usize) -> [usize; 86] {
-    if i < 86 {
+fn count(mut counts: [usize; COUNTS], i: usize, more: usize) -> [usize; COUNTS] {
+    if i < COUNTS {
         counts[i] = plus(counts[i], more);
     }
     counts
@@ -90,16 +96,34 @@ fn cell_of_race(one: usize, other: usize) -> usize {
     }
 }
 
-// Counts a race by the kinds of its accesses.
-fn count_kinds(tally: Tally, events: &[u16], reply: Reply) -> Tally {
+// The cell of a halt that row 12 refuses.
+fn cell_of_halt(event: Event) -> usize {
+    if event.operand == 0 {
+        return HALTS;
+    }
+    if event.operand == event.task {
+        return plus(HALTS, 1);
+    }
+    plus(HALTS, if event.operand < 1024 { 2 } else { 3 })
+}
+
+// The cell of an answer by the events that it names, past all cells where it has none.
+fn cell_of(events: &[u16], reply: Reply) -> usize {
+    let one = event_at(events, reply.a);
+    if reply.case == RACE {
+        return cell_of_race(one.kind, event_at(events, reply.b).kind);
+    }
+    if reply.case == plus(REFUSED, 12) {
+        return cell_of_halt(one);
+    }
+    COUNTS
+}
+
+// Counts a race by the kinds of its accesses, and a refusal by row 12 by what the halt names.
+fn count_by_events(tally: Tally, events: &[u16], reply: Reply) -> Tally {
     let counts = tally.counts;
-    let one = if reply.case == RACE { 1 } else { 0 };
-    let cell = cell_of_race(
-        event_at(events, reply.a).kind,
-        event_at(events, reply.b).kind,
-    );
     Tally {
-        counts: count(counts, cell, one),
+        counts: count(counts, cell_of(events, reply), 1),
         agreed: tally.agreed,
     }
 }
@@ -136,7 +160,7 @@ fn judge_and_ask(
         events,
         sizes,
         stream(seed, 6),
-        count_kinds(count_judged(tally, reply), events, reply),
+        count_by_events(count_judged(tally, reply), events, reply),
         memory,
     )
 }
@@ -180,7 +204,7 @@ fn try_one(seed: usize, tally: Tally, memory: &mut [usize]) -> Tally {
 // How many traces agreed, one after the other, and the counts.
 pub struct Trials {
     pub agreed: usize,
-    pub counts: [usize; 86],
+    pub counts: [usize; COUNTS],
 }
 
 fn tried(agreed: usize, tally: Tally) -> Trials {
@@ -190,7 +214,7 @@ fn tried(agreed: usize, tally: Tally) -> Trials {
 
 pub fn try_all(memory: &mut [usize]) -> Trials {
     let mut tally = Tally {
-        counts: [0; 86],
+        counts: [0; COUNTS],
         agreed: true,
     };
     let mut i = 0;

@@ -14,18 +14,6 @@ use test_cells::minus;
 use test_cells::more;
 use test_cells::plus;
 
-// The first event of task 0 from p on, or n.
-fn of_task_0(events: &[u16], p: usize, n: usize) -> usize {
-    let mut i = p;
-    while i < n {
-        if event_at(events, i).task == 0 {
-            return i;
-        }
-        i += 1;
-    }
-    i
-}
-
 // The least number that is too large, or another up to the largest.
 fn too_large(least: usize, largest: usize, seed: usize) -> usize {
     if below(seed, 3) == 0 {
@@ -39,7 +27,17 @@ fn with(event: Event, kind: usize, operand: usize) -> Event {
     make_event(event.task, kind, operand)
 }
 
-// The event as it meets the row of this number. `used` is the number of a task that has acted.
+// What a halt names that is to name the task that resumes: task 0, which is at the bottom of the stack; itself; a task that has acted; or no task at all.
+fn misnamed(task: usize, used: usize, seed: usize) -> usize {
+    match below(seed, 4) {
+        0 => 0,
+        1 => task,
+        2 => used,
+        _ => too_large(1024, 65535, next(seed)),
+    }
+}
+
+// The event as it meets the row of this number, but for what it names by chance. `used` is the number of a task that has acted.
 fn damaged(event: Event, number: usize, used: usize, seed: usize) -> Event {
     match number {
         5 => with(event, too_large(6, 255, seed), event.operand),
@@ -53,15 +51,27 @@ fn damaged(event: Event, number: usize, used: usize, seed: usize) -> Event {
         9 => with(event, FORK, too_large(1024, 65535, seed)),
         10 => with(event, FORK, used),
         11 => with(event, JOIN, below(seed, 1100)),
-        _ => with(event, HALT, too_large(1, 65535, seed)),
+        _ => with(event, HALT, misnamed(event.task, used, next(seed))),
     }
 }
 
-// Where the damage is done: at p, but for row 6 at the first event of task 0 from p on, which becomes its halt. Where there is none, that is behind the
-// trace.
+// Whether an event suits the damage: for row 6 one of task 0, which becomes its halt; for row 12 a halt that names another task than 0; for the others any.
+fn suits(event: Event, number: usize) -> bool {
+    match number {
+        6 => event.task == 0,
+        12 => (event.kind == HALT) & (event.operand != 0),
+        _ => true,
+    }
+}
+
+// Where the damage is done: at the first event from p on that suits it, or at p where there is none.
 fn place(events: &[u16], n: usize, p: usize, number: usize) -> usize {
-    if number == 6 {
-        return of_task_0(events, p, n);
+    let mut i = p;
+    while i < n {
+        if suits(event_at(events, i), number) {
+            return i;
+        }
+        i += 1;
     }
     p
 }

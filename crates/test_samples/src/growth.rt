@@ -122,12 +122,12 @@ fn access(last: Event, task: usize, shape: Shape, now: Growth) -> Event {
     )
 }
 
-// What the running task forks, joins or, at its halt, has as its operand.
+// What the running task forks or joins, or the task that resumes where it halts: the one below it on the stack.
 fn operand(table: &[u16], kind: usize, now: Growth) -> usize {
     match kind {
         2 => get(table, now.used),
         3 => get(table, plus(HALTED, less(now.halted))),
-        _ => 0,
+        _ => get(table, plus(ACTIVE, minus(now.depth, 2))),
     }
 }
 

@@ -19,15 +19,12 @@ fn parent(child: usize) -> usize {
     child & less(child)
 }
 
-// A task halts, and its parent joins it.
+// A task halts, and its parent, which resumes, joins it.
 fn give_back(events: &mut [u16], table: &[u16], child: usize, n: usize) {
     let name = get(table, child);
-    put_event(events, n, make_event(name, HALT, 0));
-    put_event(
-        events,
-        more(n),
-        make_event(get(table, parent(child)), JOIN, name),
-    );
+    let resumes = get(table, parent(child));
+    put_event(events, n, make_event(name, HALT, resumes));
+    put_event(events, more(n), make_event(resumes, JOIN, name));
 }
 
 // Every task whose tasks below it are all done is given back. Answers the number of events.

@@ -1,16 +1,17 @@
 // The slow judge, the slow ordering call and slow cards: documents 01 and 02 taken at their word, with no part of the fast ones. Of `trace` it uses the answer
 // types alone.
 pub mod card;
-mod events;
+pub mod events;
 mod joins;
 mod memory;
 mod paths;
 mod races;
-mod rules;
+pub mod rules;
 
 use events::Event;
 use events::event_at;
 use joins::links_after;
+use rules::Halts;
 use test_cells::more;
 use test_cells::plus;
 use trace::Answer;
@@ -75,11 +76,12 @@ fn take(
     operands: &[u16],
     memory: &mut [usize],
     racing: bool,
+    halts: Halts,
     running: usize,
     q: usize,
 ) -> Outcome {
     let event = event_at(kinds, tasks, operands, q);
-    let number = rules::row(kinds, operands, memory, running, event, q);
+    let number = rules::row(kinds, operands, memory, running, event, halts, q);
     if number != 0 {
         return Outcome::Failed(Verdict::Refused(refusal(number, q)));
     }
@@ -97,12 +99,13 @@ fn take_all(
     operands: &[u16],
     memory: &mut [usize],
     racing: bool,
+    halts: Halts,
 ) -> Verdict {
     rules::start(memory);
     let mut running = 0;
     let mut q = 0;
     while q < kinds.len() {
-        let outcome = take(kinds, tasks, operands, memory, racing, running, q);
+        let outcome = take(kinds, tasks, operands, memory, racing, halts, running, q);
         match outcome {
             Outcome::Passed(next) => {
                 running = next;
@@ -127,7 +130,7 @@ pub struct Sizes {
 }
 
 // Rows 1 to 3, or 0.
-fn size_row(sizes: Sizes) -> usize {
+pub fn size_row(sizes: Sizes) -> usize {
     let n = sizes.kinds;
     if sizes.tasks != n {
         return 1;
@@ -192,19 +195,20 @@ fn answer_of(
     }
 }
 
-// What the judge must answer to slices of these sizes; kinds, tasks and operands are of theirs. After a race the two orders stand at ORDERS.
+// What the judge with this row 12 must answer to slices of these sizes; kinds, tasks and operands are of theirs. After a race the two orders stand at ORDERS.
 pub fn judge(
     kinds: &[u8],
     tasks: &[u16],
     operands: &[u16],
     sizes: Sizes,
+    halts: Halts,
     memory: &mut [usize],
 ) -> Answer {
     let number = judge_row(sizes);
     if number != 0 {
         return Answer::Refused(refusal(number, 0));
     }
-    let verdict = take_all(kinds, tasks, operands, memory, true);
+    let verdict = take_all(kinds, tasks, operands, memory, true, halts);
     answer_of(kinds, tasks, operands, memory, verdict)
 }
 
@@ -221,7 +225,7 @@ pub fn judge_cards(
     if number != 0 {
         return Answer::Refused(refusal(number, 0));
     }
-    judge(kinds, tasks, operands, sizes, memory)
+    judge(kinds, tasks, operands, sizes, Halts::Named, memory)
 }
 
 // How many cells of the workspace a call on n events must leave 0, by the number of its refusal, if it is one: "After refusals 1 to 4, and any later one tested
@@ -232,6 +236,21 @@ pub fn cleared(refusal: usize, n: usize) -> usize {
         1 | 2 | 3 | 4 | 16 => 0,
         _ => plus(WORKSPACE, n),
     }
+}
+
+// The position of the first event that breaks a rule with this row 12, or how many there are where none does.
+pub fn first_break(
+    kinds: &[u8],
+    tasks: &[u16],
+    operands: &[u16],
+    halts: Halts,
+    memory: &mut [usize],
+) -> usize {
+    let verdict = take_all(kinds, tasks, operands, memory, false, halts);
+    let Verdict::Refused(refusal) = verdict else {
+        return kinds.len();
+    };
+    refusal.position
 }
 
 fn not_ordered(number: usize) -> Ordering {
@@ -266,7 +285,7 @@ pub fn ordering(
     if number != 0 {
         return not_ordered(number);
     }
-    let verdict = take_all(kinds, tasks, operands, memory, false);
+    let verdict = take_all(kinds, tasks, operands, memory, false, Halts::Named);
     let Verdict::Refused(refusal) = verdict else {
         return ordered(sizes.kinds, memory, p, q);
     };

@@ -62,6 +62,10 @@ fn documented() {
         b"halts of two tasks, top first",
         b"T0|fork(T1)|1\nT1|fork(T2)|2\nT2|w(V5)|3\nT0|r(V5)|4\n",
     );
+    show(
+        b"halts of three tasks, of two and then of one",
+        b"T0|fork(T1)|1\nT1|fork(T2)|2\nT2|fork(T3)|3\nT3|w(V5)|4\nT1|join(T2)|5\nT1|join(T3)|6\nT1|r(V5)|7\nT0|join(T1)|8\n",
+    );
 }
 
 // Runs that a judge gets wrong which follows Figure 6, remembers the last reader only, lets only descendants be joined, or takes a paused parent's

@@ -1,5 +1,5 @@
 -- The loops of `unwind` and `halt_above`: the search for a task's highest place from the top of the stack, and the halts of the tasks above it, top
--- first. Assumes nothing.
+-- first; and the operand of a halt, for `halt_operand`. Assumes nothing.
 use Prim.Native.Nat.{ℕ, zero, suc, _+_, _-_, _≤_, _<_}
 use native.Mathlib.Omega.{arith}
 use mathlib.Core.Path.{_≡_, refl, ap, _∙_}
@@ -7,9 +7,10 @@ use mathlib.Core.List.{List}
 use mathlib.Core.Option.{Option, none, some}
 use lib.ListN.{getD}
 use borrow.Author.Tests.{eq-eqb, ne-eqb}
+use Rattle.trace.specs.Line.{resumed}
 use Rattle.trace.specs.Slices.{Slices, store, storeAll}
 use Rattle.numbers.specs.Options.{_then_}
-use Rattle.form.specs.Events.{haltOperand, halt, halts, above, implied}
+use Rattle.form.specs.Events.{halt, halts, above, implied}
 use Rattle.text.specs.Answers.{tasksOf}
 
 -- A place counted from a higher one.
@@ -60,6 +61,17 @@ pub searching-ends : (cells : List ℕ) (task depth place : ℕ) → Searching c
 searching-ends cells task depth zero s p = rw (s .left) (omega arith)
 searching-ends cells task depth (suc place) s p = absurd (omega arith)
 
+-- ---- `halt_operand`
+
+pub resumed-none : (cells : List ℕ) (place : ℕ) → place ≡ 0 → 0 ≡ resumed (tasksOf cells place)
+unfolding resumed
+resumed-none cells place e = rw e
+
+pub resumed-below : (cells : List ℕ) (place : ℕ) → (place ≡ 0 → ⊥) → getD cells (place - 1) 0 ≡ resumed (tasksOf cells place)
+unfolding resumed
+resumed-below cells zero some-below = absurd (some-below refl)
+resumed-below cells (suc place) some-below = let e : suc place - 1 ≡ place = omega arith in rw e
+
 -- ---- `halt_above`
 
 -- The halts that are left to store from here are those that were to be stored from the start.
@@ -74,7 +86,7 @@ module _ (cells : List ℕ) (base depth from : ℕ) (b₀ : Slices) where
   halting-begins h = record { over = h; within = omega arith; count = refl; left = refl }
 
   pub halting-more : (b : Slices) (place at : ℕ) → Halting cells base depth from b₀ b place at → base < place
-      → (operand : ℕ) → operand ≡ haltOperand (tasksOf cells (place - 1))
+      → (operand : ℕ) → operand ≡ resumed (tasksOf cells (place - 1))
       → (b′ : Slices) → b′ ≡ store b at (record { kind = 4; task = getD cells (place - 1) 0; operand = operand })
       → Halting cells base depth from b₀ b′ (place - 1) (at + 1)
   halting-more b zero at k h operand is b′ e = absurd (omega arith)
@@ -83,7 +95,7 @@ module _ (cells : List ℕ) (base depth from : ℕ) (b₀ : Slices) where
       let c = k .count in
       let p : suc place - 1 ≡ place = omega arith in
       let q : suc place - base ≡ suc (place - base) = omega arith in
-      let o : operand ≡ haltOperand (tasksOf cells place) = rw p at is in
+      let o : operand ≡ resumed (tasksOf cells place) = rw p at is in
       let f : b′ ≡ store b at (halt (getD cells place 0) (tasksOf cells place)) = rw (p, o) at e in
       rw p (record { over = omega arith; within = omega arith; count = omega arith; left = rw f (rw q at (k .left)) })
 

@@ -11,8 +11,9 @@ use trace::WRITE;
 ghost use mathlib.Core.Path.{_≡_};
 ghost use Prim.Native.Nat.{_-_, _≤_, _<_};
 ghost use lib.ListN.{length};
+ghost use Rattle.trace.specs.Line.{resumed};
 ghost use Rattle.trace.specs.Slices.{slices, store, storeAll};
-ghost use Rattle.form.specs.Events.{kindOf, haltOperand, implied, halts, pushed};
+ghost use Rattle.form.specs.Events.{kindOf, implied, halts, pushed};
 ghost use Rattle.form.specs.Decided.{MAX-TEXT-EVENTS};
 ghost use Rattle.text.specs.Answers.{tasksOf, STACK-CELLS, StackAfter, HaltsFit, added, addedOf};
 
@@ -48,11 +49,15 @@ fn unwind(stack: &[u16; STACK_CELLS], depth: usize, task: u16) -> usize
     depth
 }
 
-// The operand of the halt of the task at `place` of the stack.
+// The operand of the halt of the task at `place` of the stack: "the task that resumes", which is the one below; 0 where there is none.
 fn halt_operand(stack: &[u16; STACK_CELLS], place: usize) -> u16
-    ensures { λ r. ⌜ r ≡ haltOperand (tasksOf (now (stack .entry)) place) ⌝ }
+    requires { ⌜ place ≤ STACK-CELLS ⌝ }
+    ensures { λ r. ⌜ r ≡ resumed (tasksOf (now (stack .entry)) place) ⌝ }
 {
-    0
+    if place == 0 {
+        return 0;
+    }
+    stack[place - 1]
 }
 
 // Event `at` of the trace.

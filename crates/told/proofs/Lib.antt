@@ -1,6 +1,7 @@
 -- The laws behind the contracts.
 pub mod Cases
 pub mod Heard
+pub mod Conversions
 pub mod Copies
 pub mod Translations
 pub mod Plans

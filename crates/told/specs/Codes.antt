@@ -9,6 +9,7 @@ use lib.ListN.{length, getD}
 use lib.Seq.{paste}
 use Rattle.trace.specs.Outcome.{Reply, says, refused, Verdict, clean, race, Outcome, OrderingOutcome}
 use Rattle.trace.specs.Slices.{Slices, slices, Translated}
+use Rattle.convert.specs.Conversion.{Done, done, ConvertOutcome}
 use Rattle.form.specs.Decided.{MAX-TEXT-EVENTS, DecidedBy}
 use Rattle.form.specs.Translation.{translated}
 
@@ -71,6 +72,31 @@ orderingCall o = record { said = orderingTold (o .answer); workspace = o .worksp
 
 abbrev pub orderingSeen : ℕ → List ℕ → List ℕ → OrderingCall
 orderingSeen code values workspace = record { said = record { code = code; values = values }; workspace = workspace }
+
+-- ---- the conversion
+
+-- 0 done; 2 refused, with the number and the position.
+unfoldable pub conversionTold : Reply Done → Told
+conversionTold (says done) = told 0 0 0
+conversionTold (refused number position) = told 2 number position
+
+-- What a caller hears.
+unfoldable pub heardConversion : ℕ → List ℕ → Reply Done
+heardConversion zero values = says done
+heardConversion (suc code) values = refused (getD values 0 0) (getD values 1 0)
+
+-- A call of the conversion from C: what is told, and what the operands and the workspace then hold.
+pub record ConvertCall : Type 0 where
+  pub said : Told
+  pub operands : List ℕ
+  pub workspace : List ℕ
+
+unfoldable pub convertCall : ConvertOutcome → ConvertCall
+convertCall o = record { said = conversionTold (o .answer); operands = o .operands; workspace = o .workspace }
+
+abbrev pub convertSeen : ℕ → List ℕ → List ℕ → List ℕ → ConvertCall
+convertSeen code values operands workspace =
+    record { said = record { code = code; values = values }; operands = operands; workspace = workspace }
 
 -- ---- a text or a plan to a trace
 

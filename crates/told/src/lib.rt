@@ -1,15 +1,19 @@
-// What a C caller is told: the judge of a whole trace, the ordering call and the translations of a text and of a plan return a code and store two values, the
-// judge a third one, and `specs/Codes.antt` says which. `capi` has them under their names in C.
+// What a C caller is told: the judge of a whole trace, the ordering call, the conversion and the translations of a text and of a plan return a code and store two
+// values, the judge a third one, and `specs/Codes.antt` says which. `capi` has them under their names in C.
 mod translation;
 
 ghost use mathlib.Core.Path.{_≡_};
 ghost use Rattle.trace.specs.Outcome.{judgeOutcome, orderingOutcome};
 ghost use Rattle.trace.specs.Slices.{slices};
 ghost use Rattle.trace.specs.Demands.{JudgeDemand1, JudgeDemand2, JudgeDemand3, JudgeLinks};
+ghost use Rattle.convert.specs.Conversion.{convertOutcome};
+ghost use Rattle.convert.specs.Demands.{ConvertDemand1, ConvertSets, SameVerdicts};
 ghost use Rattle.plan.specs.Decided.{DecidedBy, TracesPlan};
 ghost use Rattle.plan.specs.Tracing.{planned};
 ghost use Rattle.told.specs.Codes.{heard, heardLinks, judgeCall, judgeSeen, orderingCall, orderingSeen};
+ghost use Rattle.told.specs.Codes.{heardConversion, convertCall, convertSeen};
 ghost use Rattle.told.specs.Codes.{heardTrace, translationCall, translateCall, translateSeen, TranslateTells};
+use convert::Conversion;
 use text::limits::MAX_TEXT_EVENTS;
 use trace::Answer;
 use trace::Ordering;
@@ -24,6 +28,9 @@ const RACE: u64 = 1;
 const NO: u64 = 0;
 
 const YES: u64 = 1;
+
+// What the conversion returns.
+const CONVERTED: u64 = 0;
 
 // What a translation returns where a trace is written; and that of a text, where a slice has too few cells for every text.
 const TRANSLATED: u64 = 0;
@@ -97,6 +104,34 @@ pub fn ordering(
             YES
         }
         Ordering::Refused(refusal) => {
+            *values = [refusal.number as u64, refusal.position as u64];
+            REFUSED
+        }
+    }
+}
+
+// The conversion of a stored trace.
+pub fn convert(
+    kinds: &[u8],
+    tasks: &[u16],
+    operands: &mut [u16],
+    ws: &mut [u16],
+    values: &mut [u64; 2],
+) -> u64
+    ensures outcome { λ r. ⌜ convertSeen r (now (values .exit)) (now (operands .exit)) (now (ws .exit))
+        ≡ convertCall (convertOutcome (now (kinds .entry)) (now (tasks .entry)) (now (operands .entry)) (now (ws .entry))) ⌝ }
+    ensures demand1 { λ r. ⌜ ConvertDemand1 (now (kinds .entry)) (now (tasks .entry)) (now (operands .entry)) (now (ws .entry))
+        (heardConversion r (now (values .exit))) (now (operands .exit)) (now (ws .exit)) ⌝ }
+    ensures halts { λ r. ⌜ ConvertSets (now (kinds .entry)) (now (tasks .entry)) (now (operands .entry)) (now (ws .entry)) (now (operands .exit)) ⌝ }
+    ensures verdict { λ r. ⌜ SameVerdicts (now (kinds .entry)) (now (tasks .entry)) (now (operands .entry)) (now (ws .entry)) (now (operands .exit)) ⌝ }
+{
+    let conversion = convert::convert(kinds, tasks, operands, ws);
+    match conversion {
+        Conversion::Converted => {
+            *values = [0, 0];
+            CONVERTED
+        }
+        Conversion::Refused(refusal) => {
             *values = [refusal.number as u64, refusal.position as u64];
             REFUSED
         }

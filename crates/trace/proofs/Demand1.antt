@@ -9,9 +9,10 @@ use mathlib.Core.Logic.{inl, inr, _≢_}
 use native.Mathlib.Omega.{arith}
 use lib.ListN.{length, drop, length-append, length-drop}
 use Rattle.trace.specs.Trace.{Trace, traceOf, WORKSPACE-CELLS}
+use Rattle.trace.specs.Graph.{graphEvents}
 use Rattle.trace.specs.Line.{Checked, passes, fails, haltOperand}
 use Rattle.trace.specs.Outcome.{Reply, says, refused, Verdict, clean, race, judgement, inD?, schedule, sizes, orderRoom, cleared, Outcome, firstOrder, secondOrder, judgeChecked, judgeOutcome, OrderingOutcome, orderingChecked, orderingOutcome}
-use Rattle.trace.specs.Demands.{graphOf, SizeRefusal, FirstCellsZero, JudgeDemand1, OrderingDemand1}
+use Rattle.trace.specs.Demands.{SizeRefusal, FirstCellsZero, JudgeDemand1, OrderingDemand1}
 use Rattle.trace.proofs.Tests.{either}
 use Rattle.trace.proofs.Lists.{length-zeros-drop, getD-zeros-drop-below, getD-zeros-drop-beyond}
 use Rattle.trace.proofs.Lines.{passes-not-fails}
@@ -22,7 +23,7 @@ use Rattle.trace.proofs.OrderingCall.{ordering-demand, ordering-rows}
 
 -- ---- refusals 1 to 4
 
-size-refusal : {A : Type 0} (last m number position : ℕ) → (1 ≤ m) × (m ≤ last) → _≡_ {A = Reply A} (refused m 0) (refused number position)
+pub size-refusal : {A : Type 0} (last m number position : ℕ) → (1 ≤ m) × (m ≤ last) → _≡_ {A = Reply A} (refused m 0) (refused number position)
     → SizeRefusal last number position
 size-refusal last m number position between e =
     let same : m ≡ number = cc in
@@ -31,7 +32,7 @@ size-refusal last m number position between e =
 
 -- ---- the workspace
 
-cleared-zero : (n : ℕ) (workspace : List ℕ) → WORKSPACE-CELLS + n ≤ length workspace → FirstCellsZero n workspace (cleared n workspace)
+pub cleared-zero : (n : ℕ) (workspace : List ℕ) → WORKSPACE-CELLS + n ≤ length workspace → FirstCellsZero n workspace (cleared n workspace)
 unfolding cleared
 cleared-zero n workspace room =
     record {
@@ -99,21 +100,21 @@ module _ (kinds tasks operands workspace first second : List ℕ) where
       let room = size n refl .0 .room in
       let room₁ = size n refl .1 .of-first in
       let room₂ = size n refl .1 .of-second in
-      let said = demand-2 tr n in
+      let said = demand-2 haltOperand tr n in
       let lengths =
-      orders-length tr (graphOf tr n) reply first second
+      orders-length tr (graphEvents haltOperand tr n) reply first second
       (λ s t e. let h = race-before tr n s t e .1 in (omega arith, omega arith, race-length tr n s t e)) in
       record {
         race-positions = λ s t e. rw whole (race-before tr n s t e);
         refusals = λ number position e.
-            let rows = judgement-rows tr n number position e in
+            let rows = judgement-rows haltOperand tr n number position e in
             inr (rows .0, rows .1, rw whole (said .refused-iff number position .0 e .inside));
         size-row = λ number e. absurd (passes-not-fails checks e);
-        orders-kept = orders-unchanged tr (graphOf tr n) reply first second;
+        orders-kept = orders-unchanged tr (graphEvents haltOperand tr n) reply first second;
         length-workspace = cleared-zero n workspace room .one-length;
         length-first = lengths .0;
         length-second = lengths .1;
-        workspace-kept = λ number position e h. absurd (omega (arith, judgement-rows tr n number position e .0));
+        workspace-kept = λ number position e h. absurd (omega (arith, judgement-rows haltOperand tr n number position e .0));
         workspace-cleared = λ h. rw whole (cleared-zero n workspace room);
       }
 

@@ -13,11 +13,12 @@ use mathlib.Core.Logic.{_⊎_, inl, inr, _↔_, _≢_}
 use lib.ListN.{length, take, drop}
 use lib.Seq.{take-at, drop-at}
 use Rattle.trace.specs.Trace.{Trace, traceOf}
+use Rattle.trace.specs.Graph.{graphEvents}
 use Rattle.trace.specs.Line.{Checked, passes, fails, haltOperand}
 use Rattle.trace.specs.Race.{Race, InD}
 use Rattle.trace.specs.Orders.{occurrences, Order, KeepsArcs, positions, select}
 use Rattle.trace.specs.Outcome.{says, clean, race, judgement, inD?, other?, schedule, sizes, orderRoom, Outcome, firstOrder, secondOrder, judgeChecked, judgeOutcome}
-use Rattle.trace.specs.Demands.{graphOf, SameThroughout, Witnesses, InPositionOrder, Scheduled, Demand3, JudgeDemand3}
+use Rattle.trace.specs.Demands.{SameThroughout, Witnesses, InPositionOrder, Scheduled, Demand3, JudgeDemand3}
 use Rattle.trace.proofs.Tests.{by-test, either, lt-or-le, Tests, tests-map, tests-fails, tests-false, test-and, test-or, test-not, test-eq}
 use Rattle.trace.proofs.Lists.{occurrences-select-passed, occurrences-select-failed, rising-select, rising-countUp}
 use Rattle.trace.proofs.OrderFacts.{positions-order}
@@ -62,7 +63,7 @@ selected t P test tests =
 
 module _ (tr : Trace) (n : ℕ) where
   abbrev graph : ℕ
-  graph = graphOf tr n
+  graph = graphEvents haltOperand tr n
 
   abbrev forward : Forward tr graph
   forward = graph-forward haltOperand tr n
@@ -70,7 +71,7 @@ module _ (tr : Trace) (n : ℕ) where
   -- CLEAN.
   pub clean-same : judgement haltOperand tr n ≡ says clean → (o : List ℕ) → Order n o → KeepsArcs tr graph n o → SameThroughout tr n o
   clean-same e =
-      let c = demand-2 tr n .clean-iff .0 e in
+      let c = demand-2 haltOperand tr n .clean-iff .0 e in
       let whole : graph ≡ n = graph-all haltOperand tr n (c .keeps-rules .line) (c .keeps-rules .reached) in
       let calm : (p q : ℕ) → Race tr graph p q → ⊥ = λ p q r. either (c .connected p q (r .conflict)) (r .not-forth) (r .not-back) in
       λ o order keeps.
@@ -83,11 +84,11 @@ module _ (tr : Trace) (n : ℕ) where
     not-in-D p w = tests-false _ (test-in-D tr graph forward s t p) (λ d. either w (d .not-s) (d .not-t))
 
     pub race-before : (s < t) × (t < n)
-    race-before = let r = demand-2 tr n .race-iff s t .0 e in (r .before, r .inside)
+    race-before = let r = demand-2 haltOperand tr n .race-iff s t .0 e in (r .before, r .inside)
 
     pub race-witnesses : Witnesses tr graph s t (schedule (inD? tr graph s t) s t s t) (schedule (inD? tr graph s t) s t t s)
     race-witnesses =
-        let r = demand-2 tr n .race-iff s t .0 e in
+        let r = demand-2 haltOperand tr n .race-iff s t .0 e in
         witness-orders tr graph forward s t (r .before) (r .pair .not-forth) (inD? tr graph s t) (λ p h. test-in-D tr graph forward s t p)
 
     pub race-length : (a b : ℕ) → length (schedule (inD? tr graph s t) s t a b) ≡ suc t
@@ -113,7 +114,7 @@ module _ (tr : Trace) (n : ℕ) where
 -- The order buffers hold the two lists, and the rest is as it was.
 module _ (tr : Trace) (n s t : ℕ) (e : judgement haltOperand tr n ≡ says (race s t)) (a b : ℕ) (buffer : List ℕ) where
   abbrev listed : List ℕ
-  listed = schedule (inD? tr (graphOf tr n) s t) s t a b
+  listed = schedule (inD? tr (graphEvents haltOperand tr n) s t) s t a b
 
   race-taken : take (suc t) (listed ++ drop (suc t) buffer) ≡ listed
   race-taken = take-at listed (drop (suc t) buffer) (suc t) (race-length tr n s t e a b)
@@ -123,13 +124,13 @@ module _ (tr : Trace) (n s t : ℕ) (e : judgement haltOperand tr n ≡ says (ra
 
 module _ (tr : Trace) (n : ℕ) (b₁ b₂ : List ℕ) where
   abbrev a₁ : List ℕ
-  a₁ = firstOrder tr (graphOf tr n) (judgement haltOperand tr n) b₁
+  a₁ = firstOrder tr (graphEvents haltOperand tr n) (judgement haltOperand tr n) b₁
 
   abbrev a₂ : List ℕ
-  a₂ = secondOrder tr (graphOf tr n) (judgement haltOperand tr n) b₂
+  a₂ = secondOrder tr (graphEvents haltOperand tr n) (judgement haltOperand tr n) b₂
 
   witnesses :
-      (s t : ℕ) → judgement haltOperand tr n ≡ says (race s t) → Witnesses tr (graphOf tr n) s t (take (suc t) a₁) (take (suc t) a₂)
+      (s t : ℕ) → judgement haltOperand tr n ≡ says (race s t) → Witnesses tr (graphEvents haltOperand tr n) s t (take (suc t) a₁) (take (suc t) a₂)
   unfolding firstOrder secondOrder
   witnesses s t e =
       rw (e, firstOrder, secondOrder, race-taken tr n s t e s t b₁, race-taken tr n s t e t s b₂) (race-witnesses tr n s t e)
@@ -143,7 +144,7 @@ module _ (tr : Trace) (n : ℕ) (b₁ b₂ : List ℕ) where
         when-race = witnesses;
         pair-matters = λ s t e.
             let w = witnesses s t e in
-            pair-matters tr (graphOf tr n) s t (suc t) (take (suc t) a₁) (take (suc t) a₂) (demand-2 tr n .race-iff s t .0 e .pair) (w .order₁)
+            pair-matters tr (graphEvents haltOperand tr n) s t (suc t) (take (suc t) a₁) (take (suc t) a₂) (demand-2 haltOperand tr n .race-iff s t .0 e .pair) (w .order₁)
             (w .swapped);
         holds₁ = λ s t e. rw (e, firstOrder, race-taken tr n s t e s t b₁) (race-scheduled tr n s t e s t);
         holds₂ = λ s t e. rw (e, secondOrder, race-taken tr n s t e t s b₂) (race-scheduled tr n s t e t s);

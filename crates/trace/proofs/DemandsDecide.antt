@@ -10,9 +10,10 @@ use native.Mathlib.Omega.{arith}
 use lib.ListN.{length, take, drop, take-append-drop}
 use lib.Seq.{ext-getD}
 use Rattle.trace.specs.Trace.{Trace, traceOf, WORKSPACE-CELLS}
+use Rattle.trace.specs.Graph.{graphEvents}
 use Rattle.trace.specs.Line.{Checked, passes, fails, haltOperand, lineAfter}
 use Rattle.trace.specs.Outcome.{Reply, says, refused, Verdict, clean, race, judgement, inD?, schedule, sizes, orderRoom, cleared, lookedAt, linksBeside, Outcome, firstOrder, secondOrder, judgeChecked, judgeOutcome, ordering, OrderingOutcome, orderingChecked, orderingOutcome}
-use Rattle.trace.specs.Demands.{FirstCellsZero, JudgeDemand1, OrderingDemand1, graphOf, Demand2, JudgeDemand2, OrderingDemand, OrderingCallDemand, InPositionOrder, Scheduled, JudgeDemand3, JudgeLinks}
+use Rattle.trace.specs.Demands.{FirstCellsZero, JudgeDemand1, OrderingDemand1, Demand2, JudgeDemand2, OrderingDemand, OrderingCallDemand, InPositionOrder, Scheduled, JudgeDemand3, JudgeLinks}
 use Rattle.trace.proofs.Tests.{either, lt-or-le}
 use Rattle.trace.proofs.Lists.{rising-same, length-zeros-drop, getD-zeros-drop-below, getD-zeros-drop-beyond}
 use Rattle.trace.proofs.Lines.{by-check}
@@ -25,13 +26,13 @@ use Rattle.trace.proofs.Chains.{most-decided}
 -- ---- the answer
 
 module _ (tr : Trace) (n : ℕ) where
-  answer-decided : (answer : Reply Verdict) → Demand2 tr n answer → answer ≡ judgement haltOperand tr n
+  answer-decided : (answer : Reply Verdict) → Demand2 haltOperand tr n answer → answer ≡ judgement haltOperand tr n
   answer-decided answer d = is (judgement haltOperand tr n) refl
     where
       is : (reply : Reply Verdict) → judgement haltOperand tr n ≡ reply → answer ≡ reply
-      is (says clean) e = d .clean-iff .1 (demand-2 tr n .clean-iff .0 e)
-      is (says (race s t)) e = d .race-iff s t .1 (demand-2 tr n .race-iff s t .0 e)
-      is (refused number p) e = d .refused-iff number p .1 (demand-2 tr n .refused-iff number p .0 e)
+      is (says clean) e = d .clean-iff .1 (demand-2 haltOperand tr n .clean-iff .0 e)
+      is (says (race s t)) e = d .race-iff s t .1 (demand-2 haltOperand tr n .race-iff s t .0 e)
+      is (refused number p) e = d .refused-iff number p .1 (demand-2 haltOperand tr n .refused-iff number p .0 e)
 
 module _ (tr : Trace) (n p q : ℕ) where
   ordering-answer-decided : (answer : Reply Bool) → OrderingDemand tr n p q answer → answer ≡ ordering tr n p q (lineAfter haltOperand tr n)
@@ -88,7 +89,7 @@ module _ (kinds tasks operands workspace first second : List ℕ) (answer : Repl
 
   -- Past the size checks the buffers hold what the answer says.
   buffers-decided : (n : ℕ) → length kinds ≡ n → (reply : Reply Verdict) → answer ≡ reply → judgement haltOperand tr n ≡ reply
-      → (first′ ≡ firstOrder tr (graphOf tr n) reply first) × (second′ ≡ secondOrder tr (graphOf tr n) reply second)
+      → (first′ ≡ firstOrder tr (graphEvents haltOperand tr n) reply first) × (second′ ≡ secondOrder tr (graphEvents haltOperand tr n) reply second)
   unfolding firstOrder secondOrder
   buffers-decided n whole (says clean) e f = one .orders-kept (λ s t g. let z : _≡_ {A = ℕ} 0 1 = cc (e, g) in omega arith)
   buffers-decided n whole (refused number p) e f = one .orders-kept (λ s t g. refused-not-says e g)
@@ -97,11 +98,11 @@ module _ (kinds tasks operands workspace first second : List ℕ) (answer : Repl
     buffer-decided t s second′ second (rw whole at (three .holds₂ s t e)) (race-scheduled tr n s t f t s) (three .unchanged₂ s t e),
   )
     where
-      buffer-decided : (a b : ℕ) (after before : List ℕ) → Scheduled tr (graphOf tr n) s t a b (take (suc t) after)
-          → Scheduled tr (graphOf tr n) s t a b (schedule (inD? tr (graphOf tr n) s t) s t a b) → drop (suc t) after ≡ drop (suc t) before
-          → after ≡ schedule (inD? tr (graphOf tr n) s t) s t a b ++ drop (suc t) before
+      buffer-decided : (a b : ℕ) (after before : List ℕ) → Scheduled tr (graphEvents haltOperand tr n) s t a b (take (suc t) after)
+          → Scheduled tr (graphEvents haltOperand tr n) s t a b (schedule (inD? tr (graphEvents haltOperand tr n) s t) s t a b) → drop (suc t) after ≡ drop (suc t) before
+          → after ≡ schedule (inD? tr (graphEvents haltOperand tr n) s t) s t a b ++ drop (suc t) before
       buffer-decided a b after before held listed rest =
-          sym (take-append-drop (suc t) after) ∙ cc (schedule-decided tr (graphOf tr n) s t a b _ _ held listed, rest)
+          sym (take-append-drop (suc t) after) ∙ cc (schedule-decided tr (graphEvents haltOperand tr n) s t a b _ _ held listed, rest)
 
   -- The number of links is that of the answer.
   links-decided : (n : ℕ) → length kinds ≡ n → (reply : Reply Verdict) → answer ≡ reply → links ≡ linksBeside tr n reply
@@ -125,7 +126,7 @@ module _ (kinds tasks operands workspace first second : List ℕ) (answer : Repl
   decided-passes n e =
       let whole : length kinds ≡ n = sized-first kinds tasks operands workspace first second n e .of-kinds in
       let a : answer ≡ judgement haltOperand tr n = answer-decided tr n answer (two .past-sizes n e) in
-      let zero = one .workspace-cleared (λ number p f. let rows = judgement-rows tr n number p (sym a ∙ f) .0 in omega arith) in
+      let zero = one .workspace-cleared (λ number p f. let rows = judgement-rows haltOperand tr n number p (sym a ∙ f) .0 in omega arith) in
       let w : workspace′ ≡ cleared n workspace = workspace-decided n workspace workspace′ (rw whole at zero) in
       let orders = buffers-decided n whole (judgement haltOperand tr n) a refl in
       let said : links ≡ linksBeside tr n (judgement haltOperand tr n) = links-decided n whole (judgement haltOperand tr n) a in

@@ -27,6 +27,8 @@ pub mod PairMatters
 pub mod Demand3
 pub mod Demand1
 pub mod DemandsDecide
+pub mod Alike
 pub mod LaterEvents
+pub mod SameVerdict
 pub mod Table
 pub mod Slices

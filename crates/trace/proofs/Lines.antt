@@ -1,14 +1,14 @@
 -- The line after n events: what one event's rows do to it, how many events the graph has, and the first event that breaks a rule. Assumes nothing.
 use Prim.Native.Nat.{ℕ, zero, suc, _<_, _≤_}
 use mathlib.Core.Path.{_≡_, refl, sym, ap, _∙_}
-use mathlib.Core.Bool.{Bool, true, false, cond}
+use mathlib.Core.Bool.{Bool, true, false, cond, not}
 use native.Mathlib.Omega.{arith}
 use lib.Dec.{eqb}
-use borrow.Author.Tests.{not-false, leb-false}
-use Rattle.trace.specs.Trace.{Trace, FORK, JOIN, isKind, isAccess, LOCATIONS}
-use Rattle.trace.specs.Line.{Line, Checked, passes, fails, row, start, haltOperand, stepByKind, step, stepAfter, lineAfter}
+use borrow.Author.Tests.{eqb-true, not-false, leb-false}
+use Rattle.trace.specs.Trace.{Trace, FORK, JOIN, HALT, isKind, isAccess, LOCATIONS}
+use Rattle.trace.specs.Line.{Line, Checked, passes, fails, row, start, halted, stepByKind, step, stepAfter, lineAfter}
 use Rattle.trace.specs.Graph.{isPassed, graphEvents}
-use Rattle.trace.specs.Demands.{KeepsRules, BreaksFirst, graphOf}
+use Rattle.trace.specs.Demands.{KeepsRules, BreaksFirst}
 use Rattle.trace.proofs.Tests.{either, last-or-below}
 
 -- A check passes or fails, with the equation.
@@ -144,6 +144,16 @@ module _ (haltRule : Line → ℕ) (tr : Trace) where
       let seven = row-passes 7 _ _ _ (row-passes 6 _ _ _ (five .1) .1) in
       leb-false LOCATIONS (tr .operand p) (row-passes 8 _ _ _ (rw access at (seven .1)) .0)
 
+  -- A halt that keeps the rules has the operand that its rule asks for.
+  pub halt-meets : (p : ℕ) (line next : Line) → lineAfter haltRule tr p ≡ passes line → lineAfter haltRule tr (suc p) ≡ passes next → tr .kind p ≡ HALT
+      → tr .operand p ≡ haltRule line
+  unfolding step stepByKind isAccess
+  halt-meets p line next before after halts =
+      let five = row-passes 5 _ _ _ (sym (line-more p line before) ∙ after) in
+      let seven = row-passes 7 _ _ _ (row-passes 6 _ _ _ (five .1) .1) in
+      let last = row-passes 12 (not (eqb (tr .operand p) (haltRule line))) (passes (halted line)) next (rw halts at (seven .1)) in
+      eqb-true (tr .operand p) (haltRule line) (not-false _ (last .0))
+
   -- An event that keeps the rules is of a kind that the documents name.
   pub named : (n : ℕ) (line : Line) → lineAfter haltRule tr n ≡ passes line → (p : ℕ) → p < n → isKind (tr .kind p) ≡ true
   unfolding step
@@ -154,39 +164,39 @@ module _ (haltRule : Line → ℕ) (tr : Trace) where
 
 -- ---- the first event that breaks a rule
 
-module _ (tr : Trace) where
+module _ (haltRule : Line → ℕ) (tr : Trace) where
   -- Events that keep the rules have no first one that breaks one.
-  pub kept-not-broken : (m p number : ℕ) → p < m → KeepsRules tr m → BreaksFirst tr p number → ⊥
+  pub kept-not-broken : (m p number : ℕ) → p < m → KeepsRules haltRule tr m → BreaksFirst haltRule tr p number → ⊥
   kept-not-broken m p number h k b =
       passes-not-fails (k .reached)
-      (fails-later haltOperand tr (suc p) m number h (line-more haltOperand tr p (b .line) (b .kept-before) ∙ b .broken))
+      (fails-later haltRule tr (suc p) m number h (line-more haltRule tr p (b .line) (b .kept-before) ∙ b .broken))
 
   -- There is one such event at most,
-  pub broken-once : (p p′ number number′ : ℕ) → BreaksFirst tr p number → BreaksFirst tr p′ number′ → p ≡ p′
+  pub broken-once : (p p′ number number′ : ℕ) → BreaksFirst haltRule tr p number → BreaksFirst haltRule tr p′ number′ → p ≡ p′
   broken-once p p′ number number′ b b′ =
       let below : p < p′ → ⊥ = λ h. kept-not-broken p′ p number h (record { line = b′ .line; reached = b′ .kept-before }) b in
       let above : p′ < p → ⊥ = λ h. kept-not-broken p p′ number′ h (record { line = b .line; reached = b .kept-before }) b′ in
       omega arith
 
   -- and it meets one row.
-  pub one-row : (p number number′ : ℕ) → BreaksFirst tr p number → BreaksFirst tr p number′ → number ≡ number′
+  pub one-row : (p number number′ : ℕ) → BreaksFirst haltRule tr p number → BreaksFirst haltRule tr p number′ → number ≡ number′
   one-row p number number′ b b′ =
       let l : b .line ≡ b′ .line = cc (b .kept-before, b′ .kept-before) in
-      let e : step haltOperand tr p (b′ .line) ≡ fails number = rw l at (b .broken) in
+      let e : step haltRule tr p (b′ .line) ≡ fails number = rw l at (b .broken) in
       cc (e, b′ .broken)
 
   -- Where a rule is broken, the graph's number of events is the position of the first event that breaks one.
-  pub broken-at-graph : (n number : ℕ) → lineAfter haltOperand tr n ≡ fails number
-      → (graphOf tr n < n) × BreaksFirst tr (graphOf tr n) number
+  pub broken-at-graph : (n number : ℕ) → lineAfter haltRule tr n ≡ fails number
+      → (graphEvents haltRule tr n < n) × BreaksFirst haltRule tr (graphEvents haltRule tr n) number
   unfolding graphEvents lineAfter isPassed
   broken-at-graph zero number e = absurd (passes-not-fails refl e)
   broken-at-graph (suc n) number e =
-      by-check (lineAfter haltOperand tr n)
+      by-check (lineAfter haltRule tr n)
       (λ line q.
-      rw (e, isPassed, graph-all haltOperand tr n line q)
-      (omega arith, record { line = line; kept-before = q; broken = sym (line-more haltOperand tr n line q) ∙ e }))
+      rw (e, isPassed, graph-all haltRule tr n line q)
+      (omega arith, record { line = line; kept-before = q; broken = sym (line-more haltRule tr n line q) ∙ e }))
       (λ m q.
-      let same : fails m ≡ fails number = sym (fails-later haltOperand tr n (suc n) m (omega arith) q) ∙ e in
+      let same : fails m ≡ fails number = sym (fails-later haltRule tr n (suc n) m (omega arith) q) ∙ e in
       let before = broken-at-graph n number (q ∙ same) in
       let h = before .0 in
       rw (e, isPassed) (omega arith, before .1))

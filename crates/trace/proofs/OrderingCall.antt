@@ -24,19 +24,19 @@ module _ (tr : Trace) (n p q : ℕ) where
   -- ---- what an answer means, and that the computed answer means it
 
   abbrev Beyond : Type 0
-  Beyond = KeepsRules tr n × ((n ≤ p) ⊎ (n ≤ q))
+  Beyond = KeepsRules haltOperand tr n × ((n ≤ p) ⊎ (n ≤ q))
 
   abbrev Means : Reply Bool → Type 0
-  Means (says true) = KeepsRules tr n × (p < n) × (q < n) × Reach tr n p q
-  Means (says false) = KeepsRules tr n × (p < n) × (q < n) × (Reach tr n p q → ⊥)
-  Means (refused number k) = ((number ≡ 13) × (k ≡ 0) × Beyond) ⊎ ((k < n) × BreaksFirst tr k number)
+  Means (says true) = KeepsRules haltOperand tr n × (p < n) × (q < n) × Reach tr n p q
+  Means (says false) = KeepsRules haltOperand tr n × (p < n) × (q < n) × (Reach tr n p q → ⊥)
+  Means (refused number k) = ((number ≡ 13) × (k ≡ 0) × Beyond) ⊎ ((k < n) × BreaksFirst haltOperand tr k number)
 
-  means-said : KeepsRules tr n → p < n → q < n → Means (says (reach? tr n p q))
+  means-said : KeepsRules haltOperand tr n → p < n → q < n → Means (says (reach? tr n p q))
   means-said k hp hq =
       let t = test-reach tr n (forward haltOperand tr n (k .line) (k .reached)) p q in
       by-test (reach? tr n p q) (λ e. rw e (k, hp, hq, t .0 e)) (λ e. rw e (k, hp, hq, tests-fails _ t e))
 
-  means-row : KeepsRules tr n → Means (orderingSaid (row 13 (not (ltb p n && ltb q n)) (passes (reach? tr n p q))))
+  means-row : KeepsRules haltOperand tr n → Means (orderingSaid (row 13 (not (ltb p n && ltb q n)) (passes (reach? tr n p q))))
   unfolding row orderingSaid
   means-row k =
       either (lt-or-le p n)
@@ -48,7 +48,7 @@ module _ (tr : Trace) (n p q : ℕ) where
   means : (c : Checked Line) → lineAfter haltOperand tr n ≡ c → Means (ordering tr n p q c)
   unfolding ordering
   means (passes line) e = means-row (record { line = line; reached = e })
-  means (fails number) e = inr (broken-at-graph tr n number e)
+  means (fails number) e = inr (broken-at-graph haltOperand tr n number e)
 
   abbrev answer : Reply Bool
   answer = ordering tr n p q (lineAfter haltOperand tr n)
@@ -61,11 +61,11 @@ module _ (tr : Trace) (n p q : ℕ) where
 
   -- ---- each meaning has only its own answer
 
-  kept-refused : (number k : ℕ) → KeepsRules tr n → Means (refused number k) → (number ≡ 13) × (k ≡ 0) × Beyond
+  kept-refused : (number k : ℕ) → KeepsRules haltOperand tr n → Means (refused number k) → (number ≡ 13) × (k ≡ 0) × Beyond
   kept-refused number k kept (inl b) = b
-  kept-refused number k kept (inr w) = absurd (kept-not-broken tr n k number (w .0) kept (w .1))
+  kept-refused number k kept (inr w) = absurd (kept-not-broken haltOperand tr n k number (w .0) kept (w .1))
 
-  inside-refused : (number k : ℕ) → KeepsRules tr n → p < n → q < n → Means (refused number k) → ⊥
+  inside-refused : (number k : ℕ) → KeepsRules haltOperand tr n → p < n → q < n → Means (refused number k) → ⊥
   inside-refused number k kept hp hq m =
       either (kept-refused number k kept m .2 .1) (λ h. omega arith) (λ h. omega arith)
 
@@ -84,16 +84,16 @@ module _ (tr : Trace) (n p q : ℕ) where
   answer-beyond w (says false) m = absurd (inside-refused 13 0 (w .0) (m .1) (m .2) (inl (refl, refl, w)))
   answer-beyond w (refused number k) m = let b = kept-refused number k (w .0) m in cc (b .0, b .1)
 
-  answer-broken : (number k : ℕ) → (k < n) × BreaksFirst tr k number → (reply : Reply Bool) → Means reply → reply ≡ refused number k
-  answer-broken number k w (says true) m = absurd (kept-not-broken tr n k number (w .0) (m .0) (w .1))
-  answer-broken number k w (says false) m = absurd (kept-not-broken tr n k number (w .0) (m .0) (w .1))
-  answer-broken number k w (refused number′ k′) (inl b) = absurd (kept-not-broken tr n k number (w .0) (b .2 .0) (w .1))
+  answer-broken : (number k : ℕ) → (k < n) × BreaksFirst haltOperand tr k number → (reply : Reply Bool) → Means reply → reply ≡ refused number k
+  answer-broken number k w (says true) m = absurd (kept-not-broken haltOperand tr n k number (w .0) (m .0) (w .1))
+  answer-broken number k w (says false) m = absurd (kept-not-broken haltOperand tr n k number (w .0) (m .0) (w .1))
+  answer-broken number k w (refused number′ k′) (inl b) = absurd (kept-not-broken haltOperand tr n k number (w .0) (b .2 .0) (w .1))
   answer-broken number k w (refused number′ k′) (inr w′) =
-      let e : k′ ≡ k = broken-once tr k′ k number′ number (w′ .1) (w .1) in
-      let f : number′ ≡ number = one-row tr k number′ number (rw e at (w′ .1)) (w .1) in
+      let e : k′ ≡ k = broken-once haltOperand tr k′ k number′ number (w′ .1) (w .1) in
+      let f : number′ ≡ number = one-row haltOperand tr k number′ number (rw e at (w′ .1)) (w .1) in
       cc
 
-  broken-row : (number k : ℕ) → (k < n) × BreaksFirst tr k number → (5 ≤ number) × (number ≤ 12)
+  broken-row : (number k : ℕ) → (k < n) × BreaksFirst haltOperand tr k number → (5 ≤ number) × (number ≤ 12)
   broken-row number k w = step-row haltOperand tr k number (w .1 .line) (w .1 .broken)
 
   -- The ordering call's answer about the first n events.

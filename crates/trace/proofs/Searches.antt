@@ -6,11 +6,10 @@ use mathlib.Core.Bool.{Bool, true}
 use mathlib.Core.Logic.{_⊎_, inl, inr}
 use native.Mathlib.Omega.{arith}
 use Rattle.trace.specs.Trace.{Trace, FORK, JOIN, HALT}
-use Rattle.trace.specs.Line.{haltOperand}
-use Rattle.trace.specs.Graph.{Arc, to-next, to-child, to-join, Reach, here, more}
+use Rattle.trace.specs.Line.{Line}
+use Rattle.trace.specs.Graph.{Arc, to-next, to-child, to-join, Reach, here, more, graphEvents}
 use Rattle.trace.specs.Race.{Conflict, Race}
 use Rattle.trace.specs.Search.{next?, child?, join?, arc?, chain?, reach?, conflict?, race?}
-use Rattle.trace.specs.Demands.{graphOf}
 use Rattle.trace.proofs.Tests.{either, Tests, tests-map, test-eq, test-lt, test-self, test-and, test-or, test-not, test-when, test-some}
 use Rattle.trace.proofs.Paths.{Forward, arc-inside, reach-inside}
 use Rattle.trace.proofs.Forward.{graph-forward}
@@ -133,9 +132,9 @@ module _ (tr : Trace) (n : ℕ) where
       (test-when _ _ (test-conflict p q) (test-and _ _ (test-not _ (test-reach forward p q)) (test-not _ (test-reach forward q p))))
 
 -- The graph of the first n events of every trace.
-module _ (tr : Trace) (n : ℕ) where
-  pub test-reach-graph : (p q : ℕ) → Tests (reach? tr (graphOf tr n) p q) (Reach tr (graphOf tr n) p q)
-  test-reach-graph = test-reach tr (graphOf tr n) (graph-forward haltOperand tr n)
+module _ (haltRule : Line → ℕ) (tr : Trace) (n : ℕ) where
+  pub test-reach-graph : (p q : ℕ) → Tests (reach? tr (graphEvents haltRule tr n) p q) (Reach tr (graphEvents haltRule tr n) p q)
+  test-reach-graph = test-reach tr (graphEvents haltRule tr n) (graph-forward haltRule tr n)
 
-  pub test-race-graph : (p q : ℕ) → Tests (race? tr (graphOf tr n) p q) (Race tr (graphOf tr n) p q)
-  test-race-graph = test-race tr (graphOf tr n) (graph-forward haltOperand tr n)
+  pub test-race-graph : (p q : ℕ) → Tests (race? tr (graphEvents haltRule tr n) p q) (Race tr (graphEvents haltRule tr n) p q)
+  test-race-graph = test-race tr (graphEvents haltRule tr n) (graph-forward haltRule tr n)

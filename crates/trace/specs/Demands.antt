@@ -63,48 +63,48 @@ pub record OrderingDemand1 (kinds tasks operands workspace : List ℕ) (answer :
   pub workspace-cleared :
       ((number position : ℕ) → answer ≡ refused number position → 3 < number) → FirstCellsZero (length kinds) workspace workspace′
 
--- ---- demand 2, for the first n events of a trace
+-- ---- demand 2, for the first n events of a trace, with one rule or another for a halt's operand (row 12)
 
-module _ (tr : Trace) where
+module _ (haltRule : Line → ℕ) (tr : Trace) where
   -- The first n events keep the line rules.
   pub record KeepsRules (n : ℕ) : Type 0 where
     pub line : Line
-    pub reached : lineAfter haltOperand tr n ≡ passes line
+    pub reached : lineAfter haltRule tr n ≡ passes line
 
   -- Event p is the first that breaks a line rule, and meets the row of this number.
   pub record BreaksFirst (p number : ℕ) : Type 0 where
     pub line : Line
-    pub kept-before : lineAfter haltOperand tr p ≡ passes line
-    pub broken : step haltOperand tr p line ≡ fails number
+    pub kept-before : lineAfter haltRule tr p ≡ passes line
+    pub broken : step haltRule tr p line ≡ fails number
 
 -- In a graph of this many events, no access before t races with an earlier one.
 abbrev pub NoRaceBefore : Trace → ℕ → ℕ → Type 0
 NoRaceBefore tr graph t = (p q : ℕ) → p < q → q < t → Race tr graph p q → ⊥
 
-module _ (tr : Trace) (n : ℕ) where
-  abbrev pub graphOf : ℕ
-  graphOf = graphEvents haltOperand tr n
+module _ (haltRule : Line → ℕ) (tr : Trace) (n : ℕ) where
+  abbrev graph : ℕ
+  graph = graphEvents haltRule tr n
 
   -- "it keeps the line rules and every two conflicting accesses are joined by a path in its task graph"
   pub record IsClean : Type 0 where
-    pub keeps-rules : KeepsRules tr n
-    pub connected : (p q : ℕ) → Conflict tr graphOf p q → Reach tr graphOf p q ⊎ Reach tr graphOf q p
+    pub keeps-rules : KeepsRules haltRule tr n
+    pub connected : (p q : ℕ) → Conflict tr graph p q → Reach tr graph p q ⊎ Reach tr graph q p
 
   -- "Otherwise the first event that breaks a rule or races with an earlier one decides the answer." Event p breaks a rule, and no access before it
   -- races with an earlier one.
   pub record IsRefused (number p : ℕ) : Type 0 where
     pub inside : p < n
-    pub breaks-first : BreaksFirst tr p number
-    pub no-race : NoRaceBefore tr graphOf p
+    pub breaks-first : BreaksFirst haltRule tr p number
+    pub no-race : NoRaceBefore tr graph p
 
   -- "A race names the first access that has a conflicting, unordered access before it, and the earliest such partner."
   pub record IsRace (s t : ℕ) : Type 0 where
     pub inside : t < n
     pub before : s < t
-    pub keeps-rules : KeepsRules tr (suc t)
-    pub pair : Race tr graphOf s t
-    pub first : NoRaceBefore tr graphOf t
-    pub earliest : (p : ℕ) → p < s → Race tr graphOf p t → ⊥
+    pub keeps-rules : KeepsRules haltRule tr (suc t)
+    pub pair : Race tr graph s t
+    pub first : NoRaceBefore tr graph t
+    pub earliest : (p : ℕ) → p < s → Race tr graph p t → ⊥
 
   -- DEMAND 2 of an answer, past rows 1 to 4.
   pub record Demand2 (answer : Reply Verdict) : Type 0 where
@@ -114,19 +114,19 @@ module _ (tr : Trace) (n : ℕ) where
 
 -- DEMAND 2 of the judge's answer to what was lent: "Past the size checks (rows 1 to 4)" it holds of the trace's n events.
 pub record JudgeDemand2 (kinds tasks operands workspace first second : List ℕ) (answer : Reply Verdict) : Type 0 where
-  pub past-sizes : (n : ℕ) → orderRoom first second (sizes kinds tasks operands workspace) ≡ passes n → Demand2 (traceOf kinds tasks operands) n answer
+  pub past-sizes : (n : ℕ) → orderRoom first second (sizes kinds tasks operands workspace) ≡ passes n → Demand2 haltOperand (traceOf kinds tasks operands) n answer
 
 -- ---- the ordering call
 
 -- Of an answer to p and q and the first n events of a trace, past rows 1 to 3. "The whole trace must keep the line rules; races don't stop it."
 pub record OrderingDemand (tr : Trace) (n p q : ℕ) (answer : Reply Bool) : Type 0 where
   -- "It says yes exactly if p reaches q, else no."
-  pub yes-iff : (answer ≡ says true) ↔ (KeepsRules tr n × (p < n) × (q < n) × Reach tr n p q)
-  pub no-iff : (answer ≡ says false) ↔ (KeepsRules tr n × (p < n) × (q < n) × (Reach tr n p q → ⊥))
+  pub yes-iff : (answer ≡ says true) ↔ (KeepsRules haltOperand tr n × (p < n) × (q < n) × Reach tr n p q)
+  pub no-iff : (answer ≡ says false) ↔ (KeepsRules haltOperand tr n × (p < n) × (q < n) × (Reach tr n p q → ⊥))
   -- Row 13: "p or q isn't below the number of events". "Refusal 13 comes after all others."
-  pub beyond-iff : (answer ≡ refused 13 0) ↔ (KeepsRules tr n × ((n ≤ p) ⊎ (n ≤ q)))
+  pub beyond-iff : (answer ≡ refused 13 0) ↔ (KeepsRules haltOperand tr n × ((n ≤ p) ⊎ (n ≤ q)))
   -- Rows 5 to 12: event k is the first that breaks a rule, and meets the row of this number.
-  pub refused-iff : (number k : ℕ) → number ≤ 12 → (answer ≡ refused number k) ↔ ((k < n) × BreaksFirst tr k number)
+  pub refused-iff : (number k : ℕ) → number ≤ 12 → (answer ≡ refused number k) ↔ ((k < n) × BreaksFirst haltOperand tr k number)
 
 -- The same of the ordering call's answer to what was lent.
 pub record OrderingCallDemand (kinds tasks operands workspace : List ℕ) (p q : ℕ) (answer : Reply Bool) : Type 0 where
@@ -185,16 +185,16 @@ pub record Scheduled (tr : Trace) (graph s t a b : ℕ) (o : List ℕ) : Type 0 
 pub record Demand3 (tr : Trace) (n : ℕ) (answer : Reply Verdict) (b₁ b₂ a₁ a₂ : List ℕ) : Type 0 where
   -- "if the judge said clean, then whatever order of all the events the cores take, so long as it keeps all arcs of the task graph, each read sees the
   -- same write as in the trace itself, and each location ends with the same last write as there"; and the same sums after that write.
-  pub when-clean : answer ≡ says clean → (o : List ℕ) → Order n o → KeepsArcs tr (graphOf tr n) n o → SameThroughout tr n o
+  pub when-clean : answer ≡ says clean → (o : List ℕ) → Order n o → KeepsArcs tr (graphEvents haltOperand tr n) n o → SameThroughout tr n o
   -- "If it said race s t, the first t + 1 cells of the two order buffers hold two orders of the events up to t, t included."
-  pub when-race : (s t : ℕ) → answer ≡ says (race s t) → Witnesses tr (graphOf tr n) s t (take (suc t) a₁) (take (suc t) a₂)
+  pub when-race : (s t : ℕ) → answer ≡ says (race s t) → Witnesses tr (graphEvents haltOperand tr n) s t (take (suc t) a₁) (take (suc t) a₂)
   -- Between these two what the location holds right after the pair differs, or else what the read of the pair sees.
   pub pair-matters :
       (s t : ℕ) (said : answer ≡ says (race s t)) → PairMatters tr s t (when-race s t said .swapped .at) (take (suc t) a₁) (take (suc t) a₂)
   -- "The first order buffer (u16 cells) then holds D in position order, then s, t, then all other positions up to t in position order. The second holds
   -- the same with t, s."
-  pub holds₁ : (s t : ℕ) → answer ≡ says (race s t) → Scheduled tr (graphOf tr n) s t s t (take (suc t) a₁)
-  pub holds₂ : (s t : ℕ) → answer ≡ says (race s t) → Scheduled tr (graphOf tr n) s t t s (take (suc t) a₂)
+  pub holds₁ : (s t : ℕ) → answer ≡ says (race s t) → Scheduled tr (graphEvents haltOperand tr n) s t s t (take (suc t) a₁)
+  pub holds₂ : (s t : ℕ) → answer ≡ says (race s t) → Scheduled tr (graphEvents haltOperand tr n) s t t s (take (suc t) a₂)
   -- "Cells from t + 1 on are unchanged."
   pub unchanged₁ : (s t : ℕ) → answer ≡ says (race s t) → drop (suc t) a₁ ≡ drop (suc t) b₁
   pub unchanged₂ : (s t : ℕ) → answer ≡ says (race s t) → drop (suc t) a₂ ≡ drop (suc t) b₂

@@ -69,11 +69,20 @@ joined a line = record { tasks = remove a (line .tasks); active = line .active; 
 unfoldable pub halted : Line → Line
 halted line = record { tasks = line .tasks; active = tail (line .active); used = line .used }
 
--- What a halt's operand must be: "For halt it is 0."
-unfoldable pub haltOperand : Line → ℕ
-haltOperand line = 0
+-- The task that resumes where the running one halts, of the tasks paused below it; for task 0, which has none, 0.
+unfoldable pub resumed : List ℕ → ℕ
+resumed [] = 0
+resumed (parent ∷ paused) = parent
 
--- What a halt's operand must be is a parameter of the rules, so that two rules for it can be compared on one function.
+-- What a halt's operand must be (document 02, K6): "A halt's operand now names the task that resumes; for task 0's own halt it is 0."
+unfoldable pub haltOperand : Line → ℕ
+haltOperand line = resumed (tail (line .active))
+
+-- What it had to be before K6, document 01: "For halt it is 0."
+unfoldable pub haltOperandBefore : Line → ℕ
+haltOperandBefore line = 0
+
+-- The rule for it is a parameter of all rules, so that both can be spoken of with the same words.
 module _ (haltRule : Line → ℕ) where
   -- The one row for the event's kind (9 before 10).
   unfoldable pub stepByKind : ℕ → ℕ → ℕ → Line → Checked Line

@@ -6,7 +6,7 @@ use mathlib.Core.List.{List, [], _∷_}
 use lib.ListN.{replicate}
 use Rattle.trace.specs.Trace.{Event, READ, HALT}
 use Rattle.trace.specs.Outcome.{refused}
-use Rattle.trace.specs.Runs.{_read_, _write_, _sum_, _fork_, _join_, _halt, Example, example, gives}
+use Rattle.trace.specs.Runs.{_read_, _write_, _sum_, _fork_, _join_, _halt, Example, Case, caseOf, gives}
 
 -- ---- rows 1 to 4
 
@@ -49,10 +49,10 @@ abbrev event : ℕ → ℕ → ℕ → Event
 event task kind operand = record { task = task; kind = kind; operand = operand }
 
 -- In the same order. Buffers with no cell to spare pass rows 3 and 4. Where the document had kind 5 stands 6 (document 02, K3).
-unfoldable pub examples : List Example
+unfoldable pub examples : List Case
 examples =
     gives (event 0 6 0 ∷ []) (refused 5 0)
-    ∷ example 0 (event 0 6 0 ∷ []) (refused 5 0) 0 [] []
+    ∷ caseOf 0 (event 0 6 0 ∷ []) (refused 5 0) 0 [] []
     ∷ gives (event 1 6 0 ∷ []) (refused 5 0)
     ∷ gives (0 halt ∷ event 0 6 0 ∷ []) (refused 5 1)
     ∷ gives (0 halt ∷ 0 sum 0 ∷ []) (refused 6 1)

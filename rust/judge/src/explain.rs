@@ -2,6 +2,7 @@
 
 mod cards;
 mod collision;
+mod conversion;
 mod drawing;
 mod excerpt;
 mod form;
@@ -21,7 +22,7 @@ pub use refusal::{Reason, Refused};
 use crate::cards::Cards;
 use crate::phrases::{clean_before, count, has_sums};
 use crate::recording::Recording;
-use crate::study::{Planned, Question, Scene, Study};
+use crate::study::{Converted, Planned, Question, Scene, Study};
 use page::Page;
 use race::Race;
 use racejudge::{Trace, Verdict, MAX_LINKS};
@@ -154,5 +155,20 @@ pub fn counted(study: &Study, busiest: bool) -> String {
     let mut page = Page::default();
     page.add(&study.line());
     cards::tell(&mut page, &cards);
+    page.text()
+}
+
+/// The proved answer's line, and how far the trace was brought over.
+pub fn converted(converted: &Converted) -> String {
+    let mut page = Page::default();
+    page.add(&converted.line());
+    let scene = Scene::new(&converted.recording);
+    match (&converted.answer, &scene) {
+        (Ok(conversion), Some(scene)) => conversion::tell(&mut page, scene, conversion),
+        (Err(refusal), scene) => {
+            Refused::of(&converted.recording, scene.as_ref(), refusal).tell(&mut page, refusal);
+        }
+        (Ok(_), None) => {}
+    }
     page.text()
 }

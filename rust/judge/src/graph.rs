@@ -84,8 +84,10 @@ impl Walk {
         Some(life.halted)
     }
 
-    fn halt(&mut self, p: usize, task: u16, operand: u16) -> Option<()> {
-        self.life(task).filter(|_| operand == 0)?.halted = Some(p);
+    /// The task beneath resumes, and is named; beneath task 0 there is none, and 0 is named.
+    fn halt(&mut self, p: usize, task: u16, named: u16) -> Option<()> {
+        let resumes = self.active.iter().rev().nth(1).copied().unwrap_or(0);
+        self.life(task).filter(|_| named == resumes)?.halted = Some(p);
         self.active.pop();
         self.left.push(task);
         self.halted.push(task);
@@ -201,5 +203,11 @@ impl Graph {
         let there = |task: u16| task == 0 || self.life(task).forked.is_some_and(|at| at < p);
         let halted = |task: u16| self.life(task).halted.is_some_and(|at| at < p);
         self.columns.iter().rev().copied().filter(|&task| there(task) && !halted(task)).collect()
+    }
+
+    /// Before event p, the parent of the running task, which resumes when that halts; task 0 has
+    /// none.
+    pub fn parent_before(&self, p: usize) -> Option<u16> {
+        self.active_before(p).into_iter().rev().nth(1)
     }
 }

@@ -5,10 +5,10 @@ use crate::cards::{Cards, Touched, COUNTS};
 use crate::explain::{Misread, Reason, Refused};
 use crate::json::Json;
 use crate::recording::Recording;
-use crate::study::{Clash, Planned, Question, Scene, Study};
+use crate::study::{Clash, Converted, Planned, Question, Scene, Study};
 use crate::why::Why;
 use crate::words::Picture;
-use racejudge::{Leaf, Refusal, Verdict};
+use racejudge::{Conversion, Leaf, Refusal, Verdict};
 use std::ffi::OsStr;
 
 type Fields = Vec<(&'static str, Json)>;
@@ -88,6 +88,28 @@ pub fn asked(file: &OsStr, question: &Question) -> String {
                 ("reverse", question.reverse.ok().into()),
                 ("path", Some(path).filter(|path| !path.is_empty()).into()),
                 ("why", question.why.as_ref().map(why).into()),
+            ]);
+        }
+        (Ok(_), None) => {}
+    }
+    line(file, fields)
+}
+
+/// A trace that was brought over to a new file.
+pub fn converted(file: &OsStr, converted: &Converted, new: &OsStr) -> String {
+    let scene = Scene::new(&converted.recording);
+    let mut fields = head(converted.line(), scene.as_ref());
+    match (&converted.answer, &scene) {
+        (Err(refusal), scene) => {
+            fields.extend(refused(&converted.recording, scene.as_ref(), refusal));
+        }
+        (Ok(conversion), Some(scene)) => {
+            let Conversion { halts, stopped, broken, .. } = *conversion;
+            fields.extend([
+                ("halts", halts.into()),
+                ("stopped", stopped.map(|p| event(scene, p)).into()),
+                ("broken", broken.map(|refusal| Json::Object(rule(&refusal))).into()),
+                ("new", lossy(new.as_encoded_bytes()).into()),
             ]);
         }
         (Ok(_), None) => {}

@@ -22,8 +22,9 @@ pub fn deed(event: Event) -> String {
     match event.kind() {
         Some(Kind::Fork) => format!("task {task} forks task {operand}"),
         Some(Kind::Join) => format!("task {task} joins task {operand}"),
-        Some(Kind::Halt) if operand == 0 => format!("task {task} halts"),
-        Some(Kind::Halt) => format!("task {task} halts, with the operand {operand}"),
+        // Nothing resumes when task 0 has ended.
+        Some(Kind::Halt) if (task, operand) == (0, 0) => "task 0 halts".to_string(),
+        Some(Kind::Halt) => format!("task {task} halts, task {operand} resumes"),
         _ => format!("task {task} does something of kind {kind} with {operand}"),
     }
 }
@@ -161,6 +162,18 @@ pub fn wrapped(text: &str, fits: impl Fn(&str) -> bool) -> Vec<String> {
 #[cfg(test)]
 mod tests {
     use super::*;
+
+    #[test]
+    fn a_halt_says_who_resumes() {
+        let deeds = [Event::halt(2, 1), Event::halt(1, 0), Event::halt(0, 0), Event::halt(0, 7)];
+        let words = [
+            "task 2 halts, task 1 resumes",
+            "task 1 halts, task 0 resumes",
+            "task 0 halts",
+            "task 0 halts, task 7 resumes",
+        ];
+        assert_eq!(deeds.map(deed), words);
+    }
 
     #[test]
     fn limits_are_grouped() {

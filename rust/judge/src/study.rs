@@ -6,7 +6,7 @@ use crate::phrases::place;
 use crate::recording::Recording;
 use crate::schedule::Schedule;
 use crate::why::Why;
-use racejudge::{reaches, Kind, Leaf, Node, Place, Plan, Refusal, Trace, Verdict};
+use racejudge::{reaches, Conversion, Kind, Leaf, Node, Place, Plan, Refusal, Trace, Verdict};
 
 /// A trace, its graph as far as it keeps the rules, and where it was recorded.
 pub struct Scene<'a> {
@@ -139,6 +139,31 @@ impl<'a> Question<'a> {
         match &self.answer {
             Ok(true) => "yes".to_string(),
             Ok(false) => "no".to_string(),
+            Err(refusal) => answer::refused(refusal),
+        }
+    }
+}
+
+/// A stored trace that is brought over.
+pub struct Converted {
+    /// As it is afterwards.
+    pub recording: Recording,
+    pub answer: Result<Conversion, Refusal>,
+}
+
+impl Converted {
+    pub fn new(mut recording: Recording) -> Self {
+        let answer = match &mut recording.trace {
+            Ok(trace) => trace.convert(),
+            Err(refusal) => Err(*refusal),
+        };
+        Converted { recording, answer }
+    }
+
+    /// The proved answer's own line.
+    pub fn line(&self) -> String {
+        match &self.answer {
+            Ok(_) => "converted".to_string(),
             Err(refusal) => answer::refused(refusal),
         }
     }

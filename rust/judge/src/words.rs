@@ -1,6 +1,7 @@
 //! The words of the command line: the table of them, and how one is run.
 
 mod cards;
+mod convert;
 mod files;
 mod judge;
 mod order;
@@ -21,9 +22,9 @@ use std::io;
 /// How a run ended, as its exit status. Of several files the highest counts.
 #[derive(Clone, Copy, PartialEq, Eq, PartialOrd, Ord)]
 pub enum Status {
-    /// All is clean, or the answer is yes.
+    /// All is clean, or the answer is yes, or a trace is converted whole.
     Good = 0,
-    /// There is a race, or the answer is no.
+    /// There is a race, or the answer is no, or a trace is converted in part.
     Bad = 1,
     Refused = 2,
     /// Something could not be judged, or what was said of it could not be written.
@@ -76,7 +77,7 @@ struct Word {
 }
 
 /// The first is run where no word is given.
-const WORDS: [Word; 4] = [judge::WORD, order::WORD, cards::WORD, plan::WORD];
+const WORDS: [Word; 5] = [judge::WORD, order::WORD, cards::WORD, plan::WORD, convert::WORD];
 
 const JSON: &str = "--json";
 const SVG: &str = "--svg";
@@ -156,7 +157,7 @@ fn name(file: &OsStr) -> String {
     printable(file)
 }
 
-/// Says why a file cannot be judged: on standard error, or in an object.
+/// Says why a file cannot be judged or written: on standard error, or in an object.
 fn unread(file: &OsStr, wrong: &str, json: bool) -> Result<Status, Failure> {
     if json {
         print(&objects::unread(file, wrong))?;

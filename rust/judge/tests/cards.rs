@@ -92,7 +92,7 @@ fn sums_are_counted_and_are_the_first_and_the_last() {
         Event::sum(1, 9),
         Event::write(1, 5),
         Event::sum(1, 5),
-        Event::halt(1),
+        Event::halt(1, 0),
         Event::sum(0, 9),
         Event::join(0, 1),
         Event::read(0, 9),

@@ -70,7 +70,7 @@ fn standard_input_is_read_by_its_name() {
     let text = file(DOCUMENT);
     let from = |path: &PathBuf| finish(judge(["-"]).stdin(File::open(path).unwrap()));
     assert_eq!(from(&text), run([&text]));
-    let events = [Event::fork(0, 1), Event::write(1, 5), Event::halt(1), Event::read(0, 5)];
+    let events = [Event::fork(0, 1), Event::write(1, 5), Event::halt(1, 0), Event::read(0, 5)];
     let packed = file(binary(events));
     assert_eq!(from(&packed), run([&packed]));
     assert_eq!(first_line(&from(&packed)), "race 1 3");
@@ -152,6 +152,14 @@ fn a_wrong_command_line_is_told() {
     );
     let over = "--svg would write over the file that is to be judged";
     wrong_usage(&["plan", "--svg", text, text], over);
+    let needed = "an old file and a new one are needed";
+    wrong_usage(&["convert"], needed);
+    wrong_usage(&["convert", text], needed);
+    wrong_usage(&["convert", text, &picture, &picture], needed);
+    wrong_usage(&["convert", "--busiest", text, &picture], "there is no option --busiest");
+    wrong_usage(&["convert", text, text], "the old file and the new one are the same");
+    wrong_usage(&["convert", text, "-"], "what is converted goes to a file, and not to -");
+    assert!(!fs::exists(&picture).unwrap());
     assert_eq!(fs::read_to_string(text).unwrap(), DOCUMENT);
 }
 
@@ -170,6 +178,7 @@ fn help_and_version_are_printed() {
         ("order", "[--json] FILE P Q"),
         ("cards", "[--busiest] [--json] FILE..."),
         ("plan", "[--json] [--draw] [--svg FILE] [--orders] FILE..."),
+        ("convert", "[--json] OLD NEW"),
     ] {
         let line = format!("judge {word} {usage}");
         assert!(help.out.lines().any(|it| it == line), "{line}");
@@ -260,7 +269,7 @@ type Access = fn(u16, u16) -> Event;
 /// with the child joined between them.
 fn beside(one: Access, other: Access) -> [String; 2] {
     let said = |joins: &[Event]| {
-        let start = [Event::fork(0, 1), one(1, 5), Event::halt(1)];
+        let start = [Event::fork(0, 1), one(1, 5), Event::halt(1, 0)];
         let events = [&start[..], joins, &[other(0, 5)]].concat();
         run([&file(binary(events))]).out.replace('\n', " ")
     };
@@ -323,7 +332,7 @@ fn a_race_with_a_sum_says_what_becomes_of_it() {
 
 #[test]
 fn a_race_of_a_binary_trace_is_told_without_lines() {
-    let events = [Event::fork(0, 1), Event::write(1, 5), Event::halt(1), Event::read(0, 5)];
+    let events = [Event::fork(0, 1), Event::write(1, 5), Event::halt(1, 0), Event::read(0, 5)];
     let said = run([&file(binary(events))]);
     assert!(said.out.contains("\n  event 1   task 1 writes location 5\n"), "{}", said.out);
     assert!(said.out.contains("If task 0 joined task 1 before event 3, the two"), "{}", said.out);
@@ -391,7 +400,7 @@ fn a_question_is_answered_yes_no_or_refused() {
     };
     let (status, line, words) = ask("0", "2");
     assert_eq!((status, line.as_str()), (0, "yes"));
-    assert!(words.contains("\n  event 2            task 1 halts\n"), "{words}");
+    assert!(words.contains("\n  event 2            task 1 halts, task 0 resumes\n"), "{words}");
     assert_eq!(ask("2", "2").0, 0);
     let (status, line, words) = ask("1", "3");
     assert_eq!((status, line.as_str()), (1, "no"));

@@ -113,7 +113,8 @@ fn a_reader_that_is_gone_is_told() {
 /// The first part is read before the second is there.
 #[test]
 fn input_in_parts_is_put_together() {
-    let packed = binary([Event::fork(0, 1), Event::write(1, 5), Event::halt(1), Event::read(0, 5)]);
+    let packed =
+        binary([Event::fork(0, 1), Event::write(1, 5), Event::halt(1, 0), Event::read(0, 5)]);
     for bytes in [DOCUMENT.as_bytes(), &packed] {
         for cut in [1, 4, 15, bytes.len() - 1] {
             let path = file(bytes);
@@ -391,7 +392,8 @@ fn noise_for_a_plan_is_answered_and_nothing_panics() {
 fn noise(rng: &mut Rng) -> Vec<u8> {
     let length = rng.below(300);
     let letters = b"T0123456789|rwforkjoin(V)\n\r\t \0\x1b\xff";
-    let whole = binary([Event::fork(0, 1), Event::write(1, 5), Event::halt(1), Event::read(0, 5)]);
+    let whole =
+        binary([Event::fork(0, 1), Event::write(1, 5), Event::halt(1, 0), Event::read(0, 5)]);
     match rng.below(4) {
         0 => (0..length).map(|_| rng.cell(256) as u8).collect(),
         1 => (0..length).map(|_| letters[rng.below(letters.len())]).collect(),

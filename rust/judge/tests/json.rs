@@ -85,7 +85,7 @@ fn a_rule_that_is_broken_behind_a_race_is_told() {
 
 #[test]
 fn a_binary_trace_has_no_lines() {
-    let events = [Event::fork(0, 1), Event::write(1, 5), Event::halt(1), Event::read(0, 5)];
+    let events = [Event::fork(0, 1), Event::write(1, 5), Event::halt(1, 0), Event::read(0, 5)];
     let path = file(binary(events));
     let said = run(["--json".as_ref(), path.as_os_str()]);
     let s = objects(&said.out)[0].field("s").clone();
@@ -97,7 +97,7 @@ fn a_binary_trace_has_no_lines() {
 
 #[test]
 fn a_sum_has_its_kind() {
-    let events = [Event::fork(0, 1), Event::sum(1, 5), Event::halt(1), Event::read(0, 5)];
+    let events = [Event::fork(0, 1), Event::sum(1, 5), Event::halt(1, 0), Event::read(0, 5)];
     let path = file(binary(events));
     let said = run(["--json".as_ref(), path.as_os_str()]);
     let race = &objects(&said.out)[0];

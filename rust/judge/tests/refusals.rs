@@ -55,7 +55,7 @@ fn row_5_is_an_unknown_kind() {
 #[test]
 fn row_6_is_an_event_after_the_end() {
     for last in [Event::read(0, 1), Event::sum(0, 1)] {
-        let events = [Event::read(0, 1), Event::halt(0), last];
+        let events = [Event::read(0, 1), Event::halt(0, 0), last];
         refused(
             binary(events),
             "refused 6 2",
@@ -87,7 +87,7 @@ fn row_7_is_a_task_that_does_not_run() {
     let words =
         ["that is task 1.", "Task 0 is paused until its child has halted.", "a halt is missing"];
     refused(binary(events), "refused 7 1", &words);
-    let events = [Event::fork(0, 1), Event::halt(1), Event::read(1, 1)];
+    let events = [Event::fork(0, 1), Event::halt(1, 0), Event::read(1, 1)];
     refused(binary(events), "refused 7 2", &["Task 1 has halted: event 1."]);
     let words = ["event 0   task 1 adds to location 0", "Task 1 was never forked."];
     refused(binary([Event::sum(1, 0)]), "refused 7 0", &words);
@@ -129,11 +129,45 @@ fn row_11_is_a_join_of_another_than_the_left_neighbour() {
     refused(text, "refused 11 3", &[none, joined, "the join was recorded twice"]);
 }
 
+/// A nest of three, in which the halt of task 2 names this one.
+fn naming(named: u16) -> Vec<u8> {
+    binary([Event::fork(0, 1), Event::fork(1, 2), Event::halt(2, named)])
+}
+
 #[test]
-fn row_12_is_a_halt_with_an_operand() {
-    let events = [Event::fork(0, 1), Event { operand: 7, ..Event::halt(1) }];
-    let words = ["event 1   task 1 halts, with the operand 7", "Here it is 7."];
-    refused(binary(events), "refused 12 1", &words);
+fn row_12_is_a_halt_that_does_not_name_who_resumes() {
+    let resumes = "Here that is task 1, but task 7 is named.";
+    let number = "the number of the task that resumes is wrong.";
+    let words =
+        ["event 2   task 2 halts, task 7 resumes", resumes, "Task 7 was never forked.", number];
+    refused(naming(7), "refused 12 2", &words);
+    let itself = "the recorder names the task that halts, and not the one that resumes.";
+    refused(naming(2), "refused 12 2", &["but task 2 is named.", "Task 2 is running.", itself]);
+    let large = ["There is no task 2000", "the recorder does not count tasks and locations from 0"];
+    refused(naming(2_000), "refused 12 2", &large);
+    let events = [Event::fork(0, 1), Event::halt(1, 0), Event::fork(0, 2), Event::halt(2, 1)];
+    let words =
+        ["Here that is task 0, but task 1 is named.", "Task 1 has halted: event 1.", number];
+    refused(binary(events), "refused 12 3", &words);
+    let words = ["When task 0 halts no task resumes, so the operand must be 0. Here it is 3."];
+    refused(binary([Event::halt(0, 3)]), "refused 12 0", &words);
+    let right = run([&file(naming(1))]);
+    assert_eq!((right.status, right.out.lines().next()), (0, Some("clean 3")));
+}
+
+/// The other halts with a wrong operand are not of a trace that was stored so.
+#[test]
+fn row_12_is_a_trace_that_was_stored_with_0() {
+    let stored = "Likely cause: the trace was stored when the operand of every halt was 0.";
+    let (named, advice) =
+        ("but task 0 is named.", "`judge convert OLD NEW` brings such a trace over.");
+    refused(naming(0), "refused 12 2", &["Here that is task 1,", named, stored, advice]);
+    let json = run(["--json".as_ref(), file(naming(0)).as_os_str()]);
+    assert!(json.out.contains(&format!("\"advice\":\"{advice}\"")), "{}", json.out);
+    for other in [naming(2), naming(7), binary([Event::halt(0, 3)])] {
+        let words = run([&file(other)]).out;
+        assert!(!words.contains("convert") && !words.contains("stored"), "{words}");
+    }
 }
 
 #[test]

@@ -163,7 +163,7 @@ fn deep(n: u16, kept: Option<u16>) -> Vec<Event> {
     let mut events: Vec<Event> = (0..n).map(|task| Event::fork(task, task + 1)).collect();
     events.push(Event::write(n, 3));
     for task in (1..=n).rev() {
-        events.push(Event::halt(task));
+        events.push(Event::halt(task, task - 1));
         if kept.is_some_and(|kept| kept != task) {
             events.push(Event::join(task - 1, task));
         }
@@ -174,7 +174,7 @@ fn deep(n: u16, kept: Option<u16>) -> Vec<Event> {
 
 /// Tasks 1 to n beside each other, each of which writes its own location; task 0 does `last`.
 fn wide(n: u16, last: Event) -> Vec<Event> {
-    let one = |task| [Event::fork(0, task), Event::write(task, task), Event::halt(task)];
+    let one = |task| [Event::fork(0, task), Event::write(task, task), Event::halt(task, 0)];
     (1..=n).flat_map(one).chain([last]).collect()
 }
 
@@ -264,10 +264,10 @@ const COUNTER: [Event; 11] = [
     Event::read(1, 3),
     Event::sum(1, 9),
     Event::sum(1, 9),
-    Event::halt(1),
+    Event::halt(1, 0),
     Event::fork(0, 2),
     Event::sum(2, 9),
-    Event::halt(2),
+    Event::halt(2, 0),
     Event::join(0, 2),
     Event::sum(0, 9),
     Event::read(0, 9),
@@ -316,6 +316,12 @@ fn clean_runs_and_refusals_show_no_race() {
         .said()
         .contains("The left neighbour is task 2. No two accesses before event 5"));
     assert_eq!(refused.gaps(), [1]);
+    let nest = [Event::fork(0, 1), Event::fork(1, 2), Event::halt(2, 0)];
+    let stored = Drawn::of_events(nest, "stored");
+    assert!(stored.event(2).has_class("refused") && stored.says("halt 0"));
+    assert!(stored.said().contains("own halt. Task 1 resumes. No two accesses before event 2"));
+    let ended = Drawn::of_events([Event::halt(0, 7)], "ended");
+    assert!(ended.says("halt 7") && ended.said().contains("own halt. No task resumes."));
     for drawn in [example("pipeline.std"), example("two_readers.std"), refused] {
         assert!(!drawn.says("no order"));
         assert!(!drawn.root.all("g").iter().any(|event| event.has_class("racing")));

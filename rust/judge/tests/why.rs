@@ -8,7 +8,7 @@ use judge::graph::Graph;
 use judge::why::Why;
 use racejudge::{reaches, Event, Trace, Verdict};
 use racejudge_bench::ancestors::Ancestors;
-use racejudge_bench::line::Line;
+use racejudge_bench::line::{names_resumed, Line};
 use racejudge_bench::rng::Rng;
 use racejudge_bench::samples;
 use racejudge_bench::trace::{self as slow, Ordering, FORK, HALT, JOIN, WORKSPACE};
@@ -120,7 +120,7 @@ fn the_graph_ends_before_the_first_event_that_breaks_a_rule() {
             0 => samples::noise(&mut rng, n),
             _ => samples::damage(&mut rng, &whole),
         };
-        let mut line = Line::start();
+        let mut line = Line::start(names_resumed);
         let kept = |&p: &usize| {
             let (task, kind, operand) = trace.event(p);
             line.step(task, kind, operand).is_ok()

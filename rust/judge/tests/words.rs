@@ -8,7 +8,7 @@ use judge::explain::{judged, Refused};
 use judge::recording::Recording;
 use judge::study::Study;
 use racejudge::{Kind, Refusal, Trace, Verdict};
-use racejudge_bench::line::Line;
+use racejudge_bench::line::{names_resumed, Line};
 use racejudge_bench::rng::Rng;
 use racejudge_bench::samples;
 use racejudge_bench::sight::Run;
@@ -150,7 +150,7 @@ fn races(seed: u64, tries: usize, events: usize) -> Vec<(Trace, Option<Refusal>)
 
 /// The first rule that is broken, by the line kept as a list.
 fn broken(trace: &slow::Trace) -> Option<Refusal> {
-    let mut line = Line::start();
+    let mut line = Line::start(names_resumed);
     (0..trace.len()).find_map(|position| {
         let (task, kind, operand) = trace.event(position);
         line.step(task, kind, operand).err().map(|row| Refusal { row, position })
@@ -332,7 +332,8 @@ fn a_path_within_a_task_needs_no_move() {
     let words = ask("0", "6");
     assert!(words.contains("Both are of task 0, and a task acts in the order of"), "{words}");
     let words = ask("1", "6");
-    let way = "It goes over from task to task here:\n\n  event 2            task 1 halts\n  \
+    let way = "It goes over from task to task here:\n\n  \
+               event 2            task 1 halts, task 0 resumes\n  \
                event 3   line 3   task 0 joins task 1\n  event 6   line 5   task 0 reads location 5\n";
     assert!(words.contains(way), "{words}");
 }

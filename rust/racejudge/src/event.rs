@@ -22,7 +22,7 @@ pub enum Kind {
     Fork,
     /// The task joins the one immediately left of it in the line.
     Join,
-    /// The task ends.
+    /// The task ends, and its paused parent resumes.
     Halt,
     /// The task adds to a location, as to a counter.
     Sum,
@@ -88,7 +88,7 @@ impl Error for UnknownKind {}
 /// let event = Event::fork(0, 1);
 /// assert_eq!(event.kind(), Some(Kind::Fork));
 /// assert_eq!(event.to_string(), "0 fork 1");
-/// assert_eq!(Event::halt(1).to_string(), "1 halt");
+/// assert_eq!(Event::halt(1, 0).to_string(), "1 halt 0");
 /// assert_eq!(Event { kind: 9, task: 3, operand: 7 }.to_string(), "3 kind-9 7");
 /// ```
 #[derive(Clone, Copy, Debug, PartialEq, Eq, Hash)]
@@ -97,7 +97,8 @@ pub struct Event {
     pub kind: u8,
     /// The task that acts.
     pub task: u16,
-    /// The location of a read, a write or a sum, the task that is forked or joined, 0 for a halt.
+    /// The location of a read, a write or a sum, the task that is forked or joined, or for a halt the
+    /// task that resumes: 0 for task 0's own halt.
     pub operand: u16,
 }
 
@@ -131,9 +132,13 @@ impl Event {
         Event::new(Kind::Join, task, joined)
     }
 
-    /// `task` ends.
-    pub const fn halt(task: u16) -> Self {
-        Event::new(Kind::Halt, task, 0)
+    /// `task` ends, and its paused parent `resumes`. Task 0 has no parent: its own halt names 0.
+    ///
+    /// Who does not know the parent may name 0 in every halt and leave it to [`Trace::convert`].
+    ///
+    /// [`Trace::convert`]: crate::Trace::convert
+    pub const fn halt(task: u16, resumes: u16) -> Self {
+        Event::new(Kind::Halt, task, resumes)
     }
 
     /// The kind, if the number stands for one.
@@ -142,12 +147,11 @@ impl Event {
     }
 }
 
-/// Document 01's notation. A halt has no operand there, so one that is not 0 is shown.
+/// Document 01's notation, with the task that resumes behind a halt.
 impl fmt::Display for Event {
     fn fmt(&self, f: &mut fmt::Formatter<'_>) -> fmt::Result {
         let Event { kind, task, operand } = self;
         match self.kind() {
-            Some(Kind::Halt) if *operand == 0 => write!(f, "{task} halt"),
             Some(kind) => write!(f, "{task} {kind} {operand}"),
             None => write!(f, "{task} kind-{kind} {operand}"),
         }

@@ -4,6 +4,7 @@
 //! whether two of its accesses could happen in either order; [`cards`] what a clean trace does to
 //! each location; [`reaches`] whether a path of forks and joins leads from one event to another. A
 //! [`Plan`] is a schedule in series and parallel, which has a trace before any program runs.
+//! [`Trace::convert`] brings over what was stored before halts named the task that resumes.
 //! The answers come from a library whose every answer is proved: *clean* means that there is no
 //! race, and not that none was seen.
 //!
@@ -17,9 +18,9 @@
 //!
 //! let trace = Trace::from_text("T0|fork(T1)|10\nT1|w(V5)|20\nT0|r(V5)|30\n")?;
 //!
-//! // Halts have no lines: that of task 1 was put in where task 0 acts again.
+//! // Halts have no lines: that of task 1 was put in where task 0 acts again. It names task 0.
 //! let events: Vec<String> = trace.events().map(|event| event.to_string()).collect();
-//! assert_eq!(events, ["0 fork 1", "1 write 5", "1 halt", "0 read 5"]);
+//! assert_eq!(events, ["0 fork 1", "1 write 5", "1 halt 0", "0 read 5"]);
 //!
 //! // Events 1 and 3 race. Two orders of the events differ only in which of them comes first.
 //! let Verdict::Race { s, t, first, second, .. } = judge(&trace)? else { panic!("a race") };
@@ -47,10 +48,11 @@
 //!
 //! At the start the line of tasks holds task 0 alone, and it runs. Only the running task acts. A
 //! fork puts the child, whose number is new, immediately left of its parent; the parent pauses and
-//! the child runs. A halt ends the running task: it stays in the line, and its paused parent runs
-//! again. After the halt of task 0 no event follows. A join takes the task immediately left of the
-//! running one out of the line. A trace may end anywhere. One that breaks a rule is refused, with
-//! the number of the rule and the event's position: [`Refusal`].
+//! the child runs. A halt ends the running task: it stays in the line, and its paused parent
+//! resumes, which the halt names. Task 0 has no parent: its own halt names 0, and no event follows
+//! it. A join takes the task immediately left of the running one out of the line. A trace may end
+//! anywhere. One that breaks a rule is refused, with the number of the rule and the event's position:
+//! [`Refusal`].
 //!
 //! # What conflicts
 //!
@@ -77,6 +79,7 @@
 
 mod binary;
 mod card;
+mod conversion;
 mod event;
 mod plan;
 #[allow(unsafe_code)]
@@ -87,6 +90,7 @@ mod verdict;
 
 pub use binary::Damage;
 pub use card::Card;
+pub use conversion::Conversion;
 pub use event::{Event, Kind, UnknownKind};
 pub use plan::{Leaf, Needs, Node, Operator, Plan, PlanError, Tree};
 pub use refusal::Refusal;

@@ -95,7 +95,7 @@ impl Plan {
     /// use racejudge::{Event, Plan, Refusal};
     ///
     /// let plan = Plan::parse("P(s9,r3)")?;
-    /// let events = [Event::fork(0, 1), Event::sum(1, 9), Event::halt(1), Event::read(0, 3)];
+    /// let events = [Event::fork(0, 1), Event::sum(1, 9), Event::halt(1, 0), Event::read(0, 3)];
     /// assert!(plan.trace().events().eq(events.into_iter().chain([Event::join(0, 1)])));
     ///
     /// // No line feed may stand behind it.

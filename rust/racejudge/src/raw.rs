@@ -19,10 +19,9 @@ use crate::Card;
 /// The file name of the archive that is linked.
 pub const ARCHIVE: &str = env!("RACEJUDGE_ARCHIVE");
 
-/// The version of the C interface. Older archives have no [`plan`]: what calls it does not link. What
-/// does not may link: versions 1 and 2 refuse sums and make cards that do not count them, of 8 bytes
-/// each, and version 1 leaves the judge's third value unset.
-pub const VERSION: u32 = 4;
+/// The version of the C interface. Older archives hold halts to another rule and have no [`convert`]:
+/// with one of these the build of this library fails, and says so.
+pub const VERSION: u32 = 5;
 
 /// The workspace has at least this many cells more than the trace has events.
 pub const WORKSPACE: usize = 12_288;
@@ -40,6 +39,8 @@ pub const NO: u64 = 0;
 pub const YES: u64 = 1;
 /// The translation and the reader of plans: a trace; the first value is the number of its events.
 pub const TRANSLATED: u64 = 0;
+/// The conversion: halts were set as far as the trace keeps the rules.
+pub const CONVERTED: u64 = 0;
 /// All calls: a refusal; the first two values are its row and position, any other is 0.
 pub const REFUSED: u64 = 2;
 /// The translation: a slice has fewer than [`MAX_TEXT_EVENTS`](crate::MAX_TEXT_EVENTS) cells.
@@ -106,6 +107,15 @@ macro_rules! foreign {
             values: *mut [u64; 2],
         ) }
     };
+    (convert $($declared:tt)*) => {
+        $crate::foreign! { @[$($declared)*] (
+            kinds: *const u8, kinds_len: usize,
+            tasks: *const u16, tasks_len: usize,
+            operands: *mut u16, operands_len: usize,
+            workspace: *mut u16, workspace_len: usize,
+            values: *mut [u64; 2],
+        ) }
+    };
     (translate $($declared:tt)*) => {
         $crate::foreign! { @[$($declared)*] (
             text: *const u8, text_len: usize,
@@ -142,6 +152,9 @@ foreign!(judge_cards
 foreign!(ordering
     /// The library's [`ordering`].
     pub fn racejudge_ordering);
+foreign!(convert
+    /// The library's [`convert`].
+    pub fn racejudge_convert);
 foreign!(translate
     /// The library's [`translate`].
     pub fn racejudge_translate);
@@ -205,6 +218,33 @@ pub fn ordering(
 ) -> Told<2> {
     // Safe, as in `judge`.
     unsafe { ordering_by(racejudge_ordering, kinds, tasks, operands, workspace, p, q) }
+}
+
+/// Brings a trace over that was stored before version 5: sets the operand of each halt before the
+/// first event that breaks a rule to the task that resumes. Row 12 is read as it was then: it is broken
+/// by a halt whose operand is not 0. Nothing else changes.
+///
+/// ```
+/// use racejudge::raw;
+///
+/// // Task 0 forks task 1, which forks task 2, and all three halt.
+/// let (kinds, tasks) = ([2, 2, 4, 4, 4], [0, 1, 2, 1, 0]);
+/// let (mut operands, mut workspace) = ([1, 2, 0, 0, 0], [0; raw::WORKSPACE + 5]);
+/// let told = raw::convert(&kinds, &tasks, &mut operands, &mut workspace);
+/// assert_eq!((told.code, told.values), (raw::CONVERTED, [0, 0]));
+/// assert_eq!(operands, [1, 2, 1, 0, 0]);
+///
+/// let told = raw::convert(&kinds, &tasks, &mut operands, &mut []);
+/// assert_eq!((told.code, told.values), (raw::REFUSED, [3, 0]));
+/// ```
+pub fn convert(
+    kinds: &[u8],
+    tasks: &[u16],
+    operands: &mut [u16],
+    workspace: &mut [u16],
+) -> Told<2> {
+    // Safe, as in `judge`.
+    told!(racejudge_convert, [kinds, tasks], [operands, workspace])
 }
 
 /// Text to a trace, whose events are stored at the start of the three slices.

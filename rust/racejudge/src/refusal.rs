@@ -58,7 +58,9 @@ impl Refusal {
             9 => "the forked number is above 1,023",
             10 => "the forked number was used before",
             11 => "the joined task is not the left neighbour of the actor",
-            12 => "the operand of the halt is not 0",
+            12 => {
+                "the operand of the halt is not the task that resumes, or not 0 for task 0's own halt"
+            }
             13 => "a position that was asked for is not below the number of events",
             14 => {
                 "the line is not of the form `Ta|r(Vb)|c`, `Ta|w(Vb)|c`, `Ta|fork(Tb)|c` or \

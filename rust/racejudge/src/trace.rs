@@ -24,7 +24,7 @@ pub struct Place {
 /// use racejudge::{Event, Trace};
 ///
 /// let mut trace: Trace = [Event::fork(0, 1), Event::write(1, 5)].into_iter().collect();
-/// trace.push(Event::halt(1));
+/// trace.push(Event::halt(1, 0));
 /// assert_eq!(trace.len(), 3);
 /// assert_eq!(trace.event(1), Some(Event::write(1, 5)));
 /// assert_eq!(trace, Trace::from_slices(&[2, 1, 4], &[0, 1, 1], &[1, 5, 0]));
@@ -50,14 +50,14 @@ impl Trace {
     }
 
     /// The trace of a text: one event a line, `Ta|r(Vb)|c`, `Ta|w(Vb)|c`, `Ta|fork(Tb)|c` or
-    /// `Ta|join(Tb)|c`, with the halts that the lines imply. No line makes a sum. Whether the trace
-    /// keeps the rules is the judge's to say.
+    /// `Ta|join(Tb)|c`, with the halts that the lines imply, each naming the task that resumes. No
+    /// line makes a sum. Whether the trace keeps the rules is the judge's to say.
     ///
     /// ```
     /// use racejudge::{Event, Place, Refusal, Trace};
     ///
     /// let trace = Trace::from_text("T0|fork(T1)|10\nT0|r(V5)|30\n")?;
-    /// assert!(trace.events().eq([Event::fork(0, 1), Event::halt(1), Event::read(0, 5)]));
+    /// assert!(trace.events().eq([Event::fork(0, 1), Event::halt(1, 0), Event::read(0, 5)]));
     /// assert_eq!(trace.place(1), Some(Place { line: 1, source: 30 }));
     ///
     /// let refused = Trace::from_text("T0|fork(T1)|10\nT0|r(V5)|30");
@@ -143,6 +143,11 @@ impl Trace {
     /// The operands.
     pub fn operands(&self) -> &[u16] {
         &self.operands
+    }
+
+    /// The same three, with operands that can be changed.
+    pub(crate) fn slices(&mut self) -> (&[u8], &[u16], &mut [u16]) {
+        (&self.kinds, &self.tasks, &mut self.operands)
     }
 }
 

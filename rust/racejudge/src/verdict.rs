@@ -1,7 +1,7 @@
 //! The questions about a trace, with buffers of their own.
 
 use crate::raw::{self, WORKSPACE};
-use crate::{Card, Event, Refusal, Trace, LOCATIONS, MAX_EVENTS, MAX_LINKS};
+use crate::{Card, Refusal, Trace, LOCATIONS, MAX_EVENTS};
 
 /// What the judge says of a trace that keeps the rules up to the first race.
 #[derive(Clone, Debug, PartialEq, Eq)]
@@ -37,12 +37,12 @@ impl Verdict {
     /// use racejudge::{judge, Event, Trace};
     ///
     /// let mut trace = Trace::default();
-    /// trace.extend([Event::fork(0, 1), Event::fork(1, 2), Event::halt(2)]);
+    /// trace.extend([Event::fork(0, 1), Event::fork(1, 2), Event::halt(2, 1)]);
     /// assert_eq!(judge(&trace)?.links(), 0);
     ///
     /// // Task 2 comes to hang under task 1, task 3 under task 0.
-    /// trace.extend([Event::join(1, 2), Event::halt(1)]);
-    /// trace.extend([Event::fork(0, 3), Event::halt(3), Event::join(0, 3)]);
+    /// trace.extend([Event::join(1, 2), Event::halt(1, 0)]);
+    /// trace.extend([Event::fork(0, 3), Event::halt(3, 0), Event::join(0, 3)]);
     /// assert_eq!(judge(&trace)?.links(), 1);
     ///
     /// // The two trees are of equal size: task 0, the joiner, stays on top, over task 1 and task 2.
@@ -63,7 +63,7 @@ impl Verdict {
 /// use racejudge::{judge, Event, Trace, Verdict};
 ///
 /// let mut trace = Trace::default();
-/// trace.extend([Event::fork(0, 1), Event::read(1, 5), Event::halt(1), Event::read(0, 5)]);
+/// trace.extend([Event::fork(0, 1), Event::read(1, 5), Event::halt(1, 0), Event::read(0, 5)]);
 /// assert_eq!(judge(&trace), Ok(Verdict::Clean { links: 0 }));
 ///
 /// trace.push(Event::write(0, 5));
@@ -76,7 +76,7 @@ impl Verdict {
 /// use racejudge::{judge, Event, Trace, Verdict};
 ///
 /// let mut trace = Trace::default();
-/// trace.extend([Event::fork(0, 1), Event::sum(1, 5), Event::halt(1), Event::sum(0, 5)]);
+/// trace.extend([Event::fork(0, 1), Event::sum(1, 5), Event::halt(1, 0), Event::sum(0, 5)]);
 /// assert_eq!(judge(&trace), Ok(Verdict::Clean { links: 0 }));
 ///
 /// trace.push(Event::read(0, 5));
@@ -86,11 +86,6 @@ impl Verdict {
 /// # Errors
 ///
 /// A refusal by row 1 or 2 or, where no access before it races, by one of the rows 5 to 12.
-///
-/// # Panics
-///
-/// Where the archive that is linked is of an older version of the C interface, and the answer shows
-/// it.
 pub fn judge(trace: &Trace) -> Result<Verdict, Refusal> {
     let (mut workspace, mut first, mut second) = judge_buffers(trace);
     let told = raw::judge(
@@ -102,7 +97,6 @@ pub fn judge(trace: &Trace) -> Result<Verdict, Refusal> {
         &mut second,
     );
     let [s, t, links] = told.values.map(|value| value as usize);
-    hold_version(links <= MAX_LINKS || told.code == raw::REFUSED, "it tells no links");
     match told.code {
         raw::CLEAN => Ok(Verdict::Clean { links }),
         raw::RACE => {
@@ -110,7 +104,7 @@ pub fn judge(trace: &Trace) -> Result<Verdict, Refusal> {
             second.truncate(t + 1);
             Ok(Verdict::Race { s, t, links, first, second })
         }
-        _ => Err(refusal(trace, told)),
+        _ => Err(Refusal::told(told)),
     }
 }
 
@@ -121,7 +115,7 @@ pub fn judge(trace: &Trace) -> Result<Verdict, Refusal> {
 /// use racejudge::{cards, Card, Event, Trace};
 ///
 /// let mut trace = Trace::default();
-/// trace.extend([Event::fork(0, 1), Event::read(1, 5), Event::halt(1), Event::read(0, 5)]);
+/// trace.extend([Event::fork(0, 1), Event::read(1, 5), Event::halt(1, 0), Event::read(0, 5)]);
 /// let told = cards(&trace)?.expect("no race");
 /// assert_eq!(told[5], Card { reads: 2, writes: 0, sums: 0, first: 1, last: 3 });
 /// assert_eq!(told[6], Card::UNTOUCHED);
@@ -134,13 +128,9 @@ pub fn judge(trace: &Trace) -> Result<Verdict, Refusal> {
 /// # Errors
 ///
 /// A refusal, exactly where [`judge`] gives it.
-///
-/// # Panics
-///
-/// As [`judge`] does.
 pub fn cards(trace: &Trace) -> Result<Option<Vec<Card>>, Refusal> {
     let (mut workspace, mut first, mut second) = judge_buffers(trace);
-    let mut cards = vec![UNMADE; LOCATIONS];
+    let mut cards = vec![Card::UNTOUCHED; LOCATIONS];
     let told = raw::judge_cards(
         trace.kinds(),
         trace.tasks(),
@@ -151,18 +141,11 @@ pub fn cards(trace: &Trace) -> Result<Option<Vec<Card>>, Refusal> {
         &mut cards,
     );
     match told.code {
-        raw::CLEAN => {
-            // Those of an older archive are shorter, and so the last one is not reached.
-            hold_version(cards.last() != Some(&UNMADE), "its cards have no sums");
-            Ok(Some(cards))
-        }
+        raw::CLEAN => Ok(Some(cards)),
         raw::RACE => Ok(None),
-        _ => Err(refusal(trace, told)),
+        _ => Err(Refusal::told(told)),
     }
 }
-
-/// No card: a trace has fewer events than that.
-const UNMADE: Card = Card { reads: u16::MAX, ..Card::UNTOUCHED };
 
 /// Whether event `p` reaches event `q`: they are the same, or a path leads from `p` to `q`, from
 /// each event to the same task's next one, from a fork to its child's first event, and from a halt
@@ -171,7 +154,7 @@ const UNMADE: Card = Card { reads: u16::MAX, ..Card::UNTOUCHED };
 /// ```
 /// use racejudge::{reaches, Event, Trace};
 ///
-/// let events = [Event::fork(0, 1), Event::halt(1), Event::write(0, 5), Event::join(0, 1)];
+/// let events = [Event::fork(0, 1), Event::halt(1, 0), Event::write(0, 5), Event::join(0, 1)];
 /// let trace: Trace = events.into_iter().collect();
 /// assert_eq!(reaches(&trace, 1, 2), Ok(false));
 /// assert_eq!(reaches(&trace, 1, 3), Ok(true));
@@ -182,38 +165,24 @@ const UNMADE: Card = Card { reads: u16::MAX, ..Card::UNTOUCHED };
 ///
 /// A refusal by one of the rows 1, 2 and 5 to 12; by row 13 where the trace keeps the rules, but
 /// `p` or `q` is not below the number of its events.
-///
-/// # Panics
-///
-/// As [`judge`] does.
 pub fn reaches(trace: &Trace, p: usize, q: usize) -> Result<bool, Refusal> {
-    let mut workspace = vec![0; WORKSPACE + judged_events(trace)];
+    let mut workspace = workspace(trace);
     let told = raw::ordering(trace.kinds(), trace.tasks(), trace.operands(), &mut workspace, p, q);
     match told.code {
         raw::NO => Ok(false),
         raw::YES => Ok(true),
-        _ => Err(refusal(trace, told)),
+        _ => Err(Refusal::told(told)),
     }
-}
-
-/// The refusal that a call over a trace told. An older archive refuses sums for their kind.
-fn refusal<const VALUES: usize>(trace: &Trace, told: raw::Told<VALUES>) -> Refusal {
-    let refusal = Refusal::told(told);
-    let is_known = |event: Event| event.kind().is_some();
-    let is_wrong = refusal.row == 5 && trace.event(refusal.position).is_some_and(is_known);
-    hold_version(!is_wrong, "it knows no sums");
-    refusal
-}
-
-/// Panics where an answer shows that the archive is older than these bindings.
-fn hold_version(holds: bool, lacking: &str) {
-    assert!(holds, "{} is older than version {}: {lacking}", raw::ARCHIVE, raw::VERSION);
 }
 
 /// The workspace and the two order buffers.
 fn judge_buffers(trace: &Trace) -> (Vec<u16>, Vec<u16>, Vec<u16>) {
     let n = judged_events(trace);
-    (vec![0; WORKSPACE + n], vec![0; n], vec![0; n])
+    (workspace(trace), vec![0; n], vec![0; n])
+}
+
+pub(crate) fn workspace(trace: &Trace) -> Vec<u16> {
+    vec![0; WORKSPACE + judged_events(trace)]
 }
 
 /// For how many events buffers are needed: a longer trace is refused before their lengths count.

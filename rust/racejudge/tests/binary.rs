@@ -32,7 +32,7 @@ fn kinds() {
         Event::write(0, 5),
         Event::fork(0, 1),
         Event::sum(1, 1_023),
-        Event::halt(1),
+        Event::halt(1, 0),
         Event::join(0, 1),
     ];
     let trace: Trace = events.into_iter().collect();

@@ -12,7 +12,7 @@ const CLEAN: [Event; 12] = [
     Event::write(6, 5),
     Event::read(6, 1_023),
     Event::sum(6, 5),
-    Event::halt(6),
+    Event::halt(6, 0),
     Event::sum(0, 7),
     Event::join(0, 6),
     Event::read(0, 5),
@@ -27,7 +27,8 @@ const TOUCHED: [(usize, Card); 4] = [
     (1_023, card([1, 0, 0], 3, 3)),
 ];
 
-const RACE: [Event; 4] = [Event::fork(0, 1), Event::write(1, 5), Event::halt(1), Event::read(0, 5)];
+const RACE: [Event; 4] =
+    [Event::fork(0, 1), Event::write(1, 5), Event::halt(1, 0), Event::read(0, 5)];
 const REFUSED: [Event; 2] = [Event::write(0, 5), Event::read(1, 5)];
 
 const fn card([reads, writes, sums]: [u16; 3], first: u16, last: u16) -> Card {

@@ -52,6 +52,7 @@ fn values() {
             raw::judge_cards(&[], &[], &[], &mut [], &mut [], &mut [], &mut []).values.len(),
         ),
         ("ordering", raw::ordering(&[], &[], &[], &mut [], 0, 0).values.len()),
+        ("convert", raw::convert(&[], &[], &mut [], &mut []).values.len()),
         ("translate", raw::translate(&[], &mut [], &mut [], &mut []).values.len()),
         ("plan", raw::plan(&[], &mut [], &mut [], &mut []).values.len()),
     ];
@@ -69,6 +70,7 @@ fn codes() {
     says(format!("{{ {}, {} }};", code("NO", raw::NO), code("YES", raw::YES)));
     let (translated, short) = (code("TRANSLATED", raw::TRANSLATED), code("SHORT", raw::SHORT));
     says(format!("{{ {translated}, {short} }};"));
+    says(format!("{{ {} }};", code("CONVERTED", raw::CONVERTED)));
     says(format!("{{ {} }};", code("REFUSED", raw::REFUSED)));
 }
 

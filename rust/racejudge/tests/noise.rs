@@ -67,6 +67,15 @@ fn asked(trace: &Trace, noise: &mut Noise) {
         (cards, verdict) => assert_eq!(cards, verdict.map(|_| None)),
     }
     trace.events().for_each(|event| drop(event.to_string()));
+    let mut converted = trace.clone();
+    match converted.convert() {
+        Ok(told) => {
+            let end = told.stopped.unwrap_or(trace.len());
+            assert!(trace.events().skip(end).eq(converted.events().skip(end)));
+            assert!(told.broken.is_none_or(|refusal| refusal.position >= end));
+        }
+        Err(refusal) => assert!(refusal.row == 1 && &converted == trace),
+    }
 }
 
 #[test]

@@ -92,7 +92,7 @@ impl Sample {
             way.push((letter, is_left));
             self.put(rng, task, depth - 1, way);
             way.pop();
-            self.events.extend((is_parallel && is_left).then(|| Event::halt(child)));
+            self.events.extend((is_parallel && is_left).then(|| Event::halt(child, actor)));
         }
         self.text.push(')');
         self.events.extend(is_parallel.then(|| Event::join(actor, child)));
@@ -113,7 +113,7 @@ fn document_02() {
         Event::write(0, 3),
         Event::fork(0, 1),
         Event::read(1, 3),
-        Event::halt(1),
+        Event::halt(1, 0),
         Event::read(0, 3),
         Event::join(0, 1),
     ];

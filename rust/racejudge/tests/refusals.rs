@@ -1,7 +1,8 @@
 //! Every row of the table: how it is met, and what is said of it.
 
 use racejudge::{
-    cards, judge, raw, reaches, Card, Event, Plan, Refusal, Trace, LOCATIONS, MAX_EVENTS, TASKS,
+    cards, judge, raw, reaches, Card, Event, Plan, Refusal, Trace, Verdict, LOCATIONS, MAX_EVENTS,
+    TASKS,
 };
 use std::collections::HashSet;
 use std::error::Error;
@@ -42,6 +43,8 @@ fn rows_3_and_4_which_only_a_lender_meets() {
     assert_eq!((told.code, told.values), (raw::REFUSED, [3, 0, 0]));
     let told = raw::ordering(&[0], &[0], &[0], &mut workspace, 0, 0);
     assert_eq!((told.code, told.values), (raw::REFUSED, [3, 0]));
+    let told = raw::convert(&[0], &[0], &mut [0], &mut workspace);
+    assert_eq!((told.code, told.values), (raw::REFUSED, [3, 0]));
     let mut workspace = [7; raw::WORKSPACE + 1];
     let told = raw::judge(&[0], &[0], &[0], &mut workspace, &mut [], &mut order);
     assert_eq!((told.code, told.values), (raw::REFUSED, [4, 0, 0]));
@@ -56,14 +59,14 @@ fn rows_5_to_12() {
         (Event { kind: 255, task: 9, operand: 9 }, 5),
         (Event::read(1, 0), 7),
         (Event::sum(1, 0), 7),
-        (Event::halt(u16::MAX), 7),
+        (Event::halt(u16::MAX, 0), 7),
         (Event::read(0, locations), 8),
         (Event::write(0, u16::MAX), 8),
         (Event::sum(0, locations), 8),
         (Event::fork(0, tasks), 9),
         (Event::fork(0, 0), 10),
         (Event::join(0, 1), 11),
-        (Event { operand: 3, ..Event::halt(0) }, 12),
+        (Event::halt(0, 3), 12),
     ] {
         refused(&trace(&[last]), row, 0);
         refused(&trace(&[FIRST, FIRST, last, FIRST]), row, 2);
@@ -72,10 +75,37 @@ fn rows_5_to_12() {
         refused(&trace(&long), row, MAX_EVENTS - 1);
     }
     for after in [FIRST, Event::sum(0, 0), Event::sum(9, locations)] {
-        refused(&trace(&[Event::halt(0), after]), 6, 1);
+        refused(&trace(&[Event::halt(0, 0), after]), 6, 1);
     }
-    refused(&trace(&[Event::halt(0), Event { kind: 6, task: 0, operand: 0 }]), 5, 1);
-    refused(&trace(&[Event::fork(0, 1), Event::halt(1), Event::fork(0, 1)]), 10, 2);
+    refused(&trace(&[Event::halt(0, 0), Event { kind: 6, task: 0, operand: 0 }]), 5, 1);
+    refused(&trace(&[Event::fork(0, 1), Event::halt(1, 0), Event::fork(0, 1)]), 10, 2);
+}
+
+/// In a nest each halt names the task beneath, and no other.
+#[test]
+fn row_12_is_a_halt_that_does_not_name_who_resumes() {
+    let nest = [
+        Event::fork(0, 5),
+        Event::fork(5, 3),
+        Event::fork(3, 9),
+        Event::halt(9, 3),
+        Event::halt(3, 5),
+        Event::halt(5, 0),
+        Event::halt(0, 0),
+    ];
+    assert_eq!(judge(&trace(&nest)), Ok(Verdict::Clean { links: 0 }));
+    for halt in 3..nest.len() {
+        let Event { task, operand: resumes, .. } = nest[halt];
+        for named in [0, 3, 5, 9, 1, 1_023, 1_024, resumes + 1_024, u16::MAX] {
+            if named != resumes {
+                let events = [&nest[..halt], &[Event::halt(task, named)]].concat();
+                refused(&trace(&events), 12, halt);
+            }
+        }
+    }
+    // A sibling that has halted does not resume.
+    let siblings = [Event::fork(0, 1), Event::halt(1, 0), Event::fork(0, 2), Event::halt(2, 1)];
+    refused(&trace(&siblings), 12, 3);
 }
 
 #[test]

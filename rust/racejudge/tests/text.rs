@@ -20,7 +20,7 @@ fn places(trace: &Trace) -> Vec<(usize, u16)> {
 #[test]
 fn document_01() {
     let trace = accepted(DOCUMENT);
-    let events = [Event::fork(0, 1), Event::write(1, 5), Event::halt(1), Event::read(0, 5)];
+    let events = [Event::fork(0, 1), Event::write(1, 5), Event::halt(1, 0), Event::read(0, 5)];
     assert!(trace.events().eq(events));
     assert_eq!(places(&trace), [(0, 10), (1, 20), (2, 30), (2, 30)]);
 }
@@ -35,12 +35,12 @@ fn implied_halts_stand_on_the_line_that_implied_them() {
         Event::fork(0, 1),
         Event::fork(1, 2),
         Event::fork(2, 3),
-        Event::halt(3),
-        Event::halt(2),
+        Event::halt(3, 2),
+        Event::halt(2, 1),
         Event::read(1, 4),
         Event::fork(1, 5),
-        Event::halt(5),
-        Event::halt(1),
+        Event::halt(5, 1),
+        Event::halt(1, 0),
         Event::join(0, 1),
     ];
     assert!(trace.events().eq(events));
@@ -63,7 +63,7 @@ fn every_event_but_a_halt_is_its_own_line() {
 #[test]
 fn events_that_are_added_have_no_place() {
     let mut trace = accepted(DOCUMENT);
-    trace.push(Event::halt(0));
+    trace.push(Event::halt(0, 0));
     assert_eq!(trace.len(), 5);
     assert_eq!(trace.place(3), Some(Place { line: 2, source: 30 }));
     assert_eq!(trace.place(4), None);

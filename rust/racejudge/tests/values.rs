@@ -18,7 +18,7 @@ fn none<T>() -> *mut T {
 
 #[test]
 fn as_many_as_the_call_has() {
-    // Safe: all slices are empty, and there are more cells than any call stores.
+    // Safe: each slice has its length, and there are more cells than any call stores.
     let judged = stored(|values| unsafe {
         let (w, f, s) = (none(), none(), none());
         raw::racejudge_judge(none(), 0, none(), 0, none(), 0, w, 0, f, 0, s, 0, values)
@@ -33,6 +33,16 @@ fn as_many_as_the_call_has() {
         raw::racejudge_ordering(none(), 0, none(), 0, none(), 0, none(), 0, 0, 0, values)
     });
     assert_eq!(ordered, (raw::REFUSED, [3, 0, UNSET, UNSET, UNSET]));
+    let converted = stored(|values| unsafe {
+        raw::racejudge_convert(none(), 0, none(), 0, none(), 0, none(), 0, values)
+    });
+    assert_eq!(converted, (raw::REFUSED, [3, 0, UNSET, UNSET, UNSET]));
+    let mut cells = [7; raw::WORKSPACE];
+    let converted = stored(|values| unsafe {
+        let workspace = cells.as_mut_ptr();
+        raw::racejudge_convert(none(), 0, none(), 0, none(), 0, workspace, cells.len(), values)
+    });
+    assert_eq!(converted, (raw::CONVERTED, [0, 0, UNSET, UNSET, UNSET]));
     let translated = stored(|values| unsafe {
         raw::racejudge_translate(none(), 0, none(), 0, none(), 0, none(), 0, values)
     });

@@ -7,8 +7,13 @@ fn trace(events: &[Event]) -> Trace {
 }
 
 /// Document 01's run in which a child writes twice what its parent reads.
-const WRITES_TWICE: [Event; 5] =
-    [Event::fork(0, 1), Event::write(1, 5), Event::write(1, 5), Event::halt(1), Event::read(0, 5)];
+const WRITES_TWICE: [Event; 5] = [
+    Event::fork(0, 1),
+    Event::write(1, 5),
+    Event::write(1, 5),
+    Event::halt(1, 0),
+    Event::read(0, 5),
+];
 
 #[test]
 fn a_race_with_its_orders() {
@@ -17,7 +22,7 @@ fn a_race_with_its_orders() {
     assert_eq!(judge(&trace(&WRITES_TWICE)), Ok(race.clone()));
     // What follows decides nothing, be it against the rules.
     let mut longer = trace(&WRITES_TWICE);
-    longer.extend([Event::halt(9), Event { kind: 200, task: 0, operand: 0 }]);
+    longer.extend([Event::halt(9, 0), Event { kind: 200, task: 0, operand: 0 }]);
     assert_eq!(judge(&longer), Ok(race));
 }
 
@@ -58,7 +63,7 @@ fn each_pair_of_kinds() {
     let clean = |joins: &[Event]| Ok(Verdict::Clean { links: joins.len() });
     for (one, other, conflict) in PAIRS {
         for (joins, location) in [(&[][..], 5), (&[], 6), (&[Event::join(0, 1)], 5)] {
-            let start = [Event::fork(0, 1), one(1, 5), Event::halt(1)];
+            let start = [Event::fork(0, 1), one(1, 5), Event::halt(1, 0)];
             let events = [&start[..], joins, &[other(0, location)]].concat();
             let wanted = match (joins, location) {
                 ([], 5) if conflict => {
@@ -78,11 +83,11 @@ fn a_counter_is_read_once_all_are_joined() {
     let counted = [
         Event::fork(0, 1),
         Event::sum(1, 5),
-        Event::halt(1),
+        Event::halt(1, 0),
         Event::fork(0, 2),
         Event::sum(2, 5),
         Event::sum(2, 5),
-        Event::halt(2),
+        Event::halt(2, 0),
         Event::join(0, 2),
     ];
     let judged = |more: &[Event]| judge(&trace(&[&counted, more].concat()));
@@ -112,7 +117,7 @@ fn paths() {
 fn as_many_events_as_a_trace_may_have() {
     let mut long = trace(&[Event::fork(0, 1)]);
     long.extend((0..MAX_EVENTS - 3).map(|_| Event::read(1, 5)));
-    long.push(Event::halt(1));
+    long.push(Event::halt(1, 0));
     assert_eq!(judge(&long), Ok(Verdict::Clean { links: 0 }));
 
     long.push(Event::write(0, 5));
@@ -154,9 +159,10 @@ fn document_01s_notation() {
         (Event::write(1, 5), "1 write 5"),
         (Event::fork(0, 1), "0 fork 1"),
         (Event::join(65_535, 0), "65535 join 0"),
-        (Event::halt(1), "1 halt"),
+        (Event::halt(1, 0), "1 halt 0"),
+        (Event::halt(9, 8), "9 halt 8"),
         (Event::sum(0, 5), "0 sum 5"),
-        (Event { operand: 3, ..Event::halt(0) }, "0 halt 3"),
+        (Event::halt(0, 0), "0 halt 0"),
         (Event { kind: 9, task: 3, operand: 7 }, "3 kind-9 7"),
     ] {
         assert_eq!(event.to_string(), words);

@@ -1,11 +1,13 @@
-//! What is measured: the linked judge and plan reader, their peers, and the buffers that are lent to
-//! them.
+//! What is measured: the linked judge, plan reader and conversion, their peers, and the buffers that
+//! are lent to them.
 
 use racejudge_bench::ancestors::Ancestors;
 use racejudge_bench::cards::cards;
+use racejudge_bench::convert;
 use racejudge_bench::fasttrack::FastTrack;
-use racejudge_bench::ffi::{self, Judge, Reader, Record, Told};
-use racejudge_bench::ffi::{BEFORE, PLAN, PLAN_C, PROVED, TWO_ORDERS, UNION_FIND};
+use racejudge_bench::ffi::{self, Converter, Judge, Reader, Record, Told};
+use racejudge_bench::ffi::{BEFORE, CONVERSION, CONVERSION_C, PLAN, PLAN_C};
+use racejudge_bench::ffi::{PROVED, TWO_ORDERS, UNION_FIND};
 use racejudge_bench::joins::links;
 use racejudge_bench::plan::Plan;
 use racejudge_bench::program::mismatch;
@@ -32,6 +34,9 @@ pub enum Peer {
     Plan,
     /// The plan reader by hand.
     PlanC,
+    Conversion,
+    /// The conversion by hand.
+    ConversionC,
 }
 
 /// Those that run on the traces of a table, in the order of its columns.
@@ -42,10 +47,11 @@ pub const CARDS: [Peer; 3] = [Peer::Cards, Peer::Judge, Peer::Pass];
 pub const CHAINS: [Peer; 3] = [Peer::Judge, Peer::TwoOrders, Peer::UnionFind];
 pub const AGAIN: [Peer; 2] = [Peer::Judge, Peer::Before];
 pub const READING: [Peer; 2] = [Peer::Plan, Peer::PlanC];
+pub const CONVERTING: [Peer; 3] = [Peer::Conversion, Peer::Judge, Peer::ConversionC];
 
 impl Peer {
     /// How many there are.
-    pub const COUNT: usize = Peer::PlanC as usize + 1;
+    pub const COUNT: usize = Peer::ConversionC as usize + 1;
 
     pub fn name(self) -> &'static str {
         match self {
@@ -60,6 +66,8 @@ impl Peer {
             Peer::Before => "judge before",
             Peer::Plan => "plan reader",
             Peer::PlanC => PLAN_C.name,
+            Peer::Conversion => "conversion",
+            Peer::ConversionC => CONVERSION_C.name,
         }
     }
 }
@@ -71,21 +79,23 @@ pub enum Call {
     Ordering(usize, usize),
 }
 
-/// What is measured on: a trace, and the plan that makes it, where plans are read.
+/// What is measured on: a trace, the same as it was stored before halts named a task, where it is
+/// brought over or an older judge is lent it, and the plan that makes it, where plans are read.
 pub struct Input {
     pub trace: Trace,
+    pub stored: Trace,
     pub plan: String,
 }
 
 impl From<Trace> for Input {
     fn from(trace: Trace) -> Self {
-        Input { trace, plan: String::new() }
+        Input { stored: trace.stored(), trace, plan: String::new() }
     }
 }
 
 impl From<Plan> for Input {
     fn from(plan: Plan) -> Self {
-        Input { trace: plan.trace(), plan: plan.to_string() }
+        Input { trace: plan.trace(), stored: Trace::default(), plan: plan.to_string() }
     }
 }
 
@@ -99,6 +109,8 @@ pub struct Peers {
     cards: Vec<Record>,
     /// The slices that a plan is written to.
     planned: Trace,
+    /// The operands that a conversion works on.
+    operands: Vec<u16>,
 }
 
 impl Peers {
@@ -111,12 +123,20 @@ impl Peers {
             second: vec![0; MAX_EVENTS],
             cards: vec![Record::UNTOUCHED; LOCATIONS],
             planned: Trace::of(&[(0, READ, 0); MAX_EVENTS]),
+            operands: Vec::with_capacity(MAX_EVENTS),
         }
     }
 
     /// Seconds for a call, the mean of `batch` calls. The input has been agreed on.
     pub fn time(&mut self, peer: Peer, call: Call, input: &Input, batch: usize) -> f64 {
-        let Input { trace, plan } = input;
+        let Input { trace, stored, plan } = input;
+        let trace = if peer == Peer::Before { stored } else { trace };
+        // Whoever ran before, each finds in the cache what it is lent.
+        black_box(ffi::floor(trace, &mut self.workspace));
+        // Where a conversion has been, the next would stop at the first halt that names a task.
+        if matches!(peer, Peer::Conversion | Peer::ConversionC) {
+            self.operands.clone_from(&stored.operands);
+        }
         let start = Instant::now();
         for _ in 0..batch {
             match peer {
@@ -133,6 +153,8 @@ impl Peers {
                 Peer::Pass => unsafe { ffi::pass(trace, black_box(&mut self.cards)) },
                 Peer::Plan => _ = black_box(self.read(&PLAN, plan)),
                 Peer::PlanC => _ = black_box(self.read(&PLAN_C, plan)),
+                Peer::Conversion => _ = black_box(self.convert(&CONVERSION, trace)),
+                Peer::ConversionC => _ = black_box(self.convert(&CONVERSION_C, trace)),
             }
         }
         start.elapsed().as_secs_f64() / batch as f64
@@ -161,6 +183,11 @@ impl Peers {
     fn read(&mut self, reader: &Reader, plan: &str) -> Told<2> {
         let Trace { kinds, tasks, operands } = &mut self.planned;
         (reader.read)(plan.as_bytes(), kinds, tasks, operands)
+    }
+
+    /// Of the trace the kinds and tasks alone: its operands, as they were stored, are there.
+    fn convert(&mut self, converter: &Converter, Trace { kinds, tasks, .. }: &Trace) -> Told<2> {
+        (converter.convert)(kinds, tasks, &mut self.operands, &mut self.workspace)
     }
 
     /// Before anything is measured the linked judges must say what is wanted and leave the same
@@ -228,7 +255,7 @@ impl Peers {
     }
 
     /// Both plan readers must write the trace and nothing behind it.
-    pub fn agree_on_plan(&mut self, Input { trace, plan }: &Input) {
+    pub fn agree_on_plan(&mut self, Input { trace, plan, .. }: &Input) {
         let dirt = (7, 7, 7);
         let mut wanted = trace.clone();
         (trace.len()..MAX_EVENTS).for_each(|p| wanted.insert(p, dirt));
@@ -238,6 +265,21 @@ impl Peers {
             said(reader.name, told, Translation::Events(trace.len()).into(), plan);
             if self.planned != wanted {
                 mismatch(&format!("{} wrote another trace\non {plan}", reader.name));
+            }
+        }
+    }
+
+    /// Both conversions and the slow one must make the trace of the stored one and clear the workspace.
+    pub fn agree_on_conversion(&mut self, Input { trace, stored, .. }: &Input) {
+        said("the slow conversion", convert::operands(stored), trace.operands.clone(), stored);
+        for converter in [&CONVERSION, &CONVERSION_C] {
+            self.operands.clone_from(&stored.operands);
+            self.workspace.fill(7);
+            said(converter.name, self.convert(converter, stored), Conversion::Done.into(), stored);
+            let (cleared, rest) = self.workspace.split_at(WORKSPACE + trace.len());
+            let left = cleared.iter().all(|&cell| cell == 0) && rest.iter().all(|&cell| cell == 7);
+            if !left || self.operands != trace.operands {
+                mismatch(&format!("{} left other buffers\non {stored}", converter.name));
             }
         }
     }

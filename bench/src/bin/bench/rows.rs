@@ -1,6 +1,7 @@
 //! The rows of the tables: traces or plans of one kind, and the best time of each peer on each.
 
-use crate::peers::{Call, Input, Peer, Peers, AGAIN, CARDS, CHAINS, JUDGING, ORDERING, READING};
+use crate::peers::{Call, Input, Peer, Peers};
+use crate::peers::{AGAIN, CARDS, CHAINS, CONVERTING, JUDGING, ORDERING, READING};
 use racejudge_bench::extent::Extent;
 use racejudge_bench::ffi::BEFORE;
 use racejudge_bench::joins::links;
@@ -93,6 +94,11 @@ impl Row {
         let bytes: usize = self.inputs.iter().map(|input| input.plan.len()).sum();
         self.micros(peer) * 1e3 * self.inputs.len() as f64 / bytes as f64
     }
+
+    /// Millions of events a second.
+    pub fn millions(&self, peer: Peer) -> f64 {
+        self.events as f64 / self.micros(peer)
+    }
 }
 
 /// Those of each table.
@@ -105,6 +111,7 @@ pub struct Rows {
     pub again: Vec<Row>,
     pub plans: Vec<Row>,
     pub plan_growth: Vec<Row>,
+    pub conversion: Vec<Row>,
 }
 
 impl Rows {
@@ -119,13 +126,15 @@ impl Rows {
             again: again(peers, count, rng),
             plans: SHAPES.iter().map(|shape| plans(peers, shape, MAX_EVENTS, count, rng)).collect(),
             plan_growth: plan_growth(peers, count, rng),
+            conversion: conversion(peers, count, rng),
         }
     }
 
     pub fn all(&mut self) -> impl Iterator<Item = &mut Row> {
-        let Rows { workloads, growth, ordering, cards, chains, again, plans, plan_growth } = self;
-        let rows = [workloads, growth, ordering, cards, chains, again, plans, plan_growth];
-        rows.into_iter().flatten()
+        let Rows { workloads, growth, ordering, cards, chains, again, .. } = self;
+        let judged = [workloads, growth, ordering, cards, chains, again];
+        let others = [&mut self.plans, &mut self.plan_growth, &mut self.conversion];
+        judged.into_iter().chain(others).flatten()
     }
 }
 
@@ -234,7 +243,8 @@ fn chains(peers: &mut Peers, count: usize, rng: &mut Rng) -> Vec<Row> {
 }
 
 /// Each workload at full size once more, for the older judge; none where none is linked. One that
-/// refuses sums has no row where there are some.
+/// refuses sums has no row where there are some, and one that is older than halts that name a task is
+/// lent the traces as they were stored.
 fn again(peers: &mut Peers, count: usize, rng: &mut Rng) -> Vec<Row> {
     let mut rows = Vec::new();
     let Some(before) = &BEFORE else {
@@ -246,11 +256,35 @@ fn again(peers: &mut Peers, count: usize, rng: &mut Rng) -> Vec<Row> {
             continue;
         }
         let expected = (workload.expected)(MAX_EVENTS);
-        for trace in &traces {
+        let lent = |trace: Trace| match before.knows_resumed() {
+            true => Input { stored: trace.clone(), ..Input::from(trace) },
+            false => trace.into(),
+        };
+        let inputs: Vec<Input> = traces.into_iter().map(lent).collect();
+        for Input { trace, stored, .. } in &inputs {
             peers.agree(trace, expected, false);
-            peers.agree_before(before, trace, expected);
+            peers.agree_before(before, stored, expected);
         }
-        rows.push(Row::new(workload.name, &AGAIN, Call::Judge, traces, expected));
+        rows.push(Row::new(workload.name, &AGAIN, Call::Judge, inputs, expected));
+    }
+    rows
+}
+
+/// The workloads at full size, for the conversion. Races do not stop it: no call is a short one, and
+/// each is timed alone.
+fn conversion(peers: &mut Peers, count: usize, rng: &mut Rng) -> Vec<Row> {
+    let mut rows = Vec::new();
+    for workload in &WORKLOADS {
+        let traces = traces(workload.make, MAX_EVENTS, count, rng);
+        if traces[0].is_empty() {
+            continue;
+        }
+        let inputs: Vec<Input> = traces.into_iter().map(Into::into).collect();
+        for input in &inputs {
+            peers.agree(&input.trace, (workload.expected)(MAX_EVENTS), false);
+            peers.agree_on_conversion(input);
+        }
+        rows.push(Row::new(workload.name, &CONVERTING, Call::Judge, inputs, Answer::Clean));
     }
     rows
 }

@@ -1,6 +1,6 @@
 //! The tables, in Markdown with columns that line up, and the summary.
 
-use crate::peers::{Peer, AGAIN, CARDS, CHAINS, JUDGING, ORDERING, READING};
+use crate::peers::{Peer, AGAIN, CARDS, CHAINS, CONVERTING, JUDGING, ORDERING, READING};
 use crate::rows::{Row, Rows, SIZES};
 use racejudge_bench::trace::MAX_EVENTS;
 use std::iter::once;
@@ -18,6 +18,8 @@ const FASTTRACK: Ratio = Ratio { of: Peer::Judge, over: &[Peer::FastTrack] };
 const PASS: Ratio = Ratio { of: Peer::Cards, over: &[Peer::Judge, Peer::Pass] };
 const BEFORE: Ratio = Ratio { of: Peer::Judge, over: &[Peer::Before] };
 const READER: Ratio = Ratio { of: Peer::Plan, over: &[Peer::PlanC] };
+const CONVERSION: Ratio = Ratio { of: Peer::Conversion, over: &[Peer::Judge] };
+const CONVERSION_C: Ratio = Ratio { of: Peer::Conversion, over: &[Peer::ConversionC] };
 
 /// What the judge without cards is measured by.
 const MEASURES: [Ratio; 3] = [TWO_ORDERS, UNION_FIND, FASTTRACK];
@@ -123,6 +125,8 @@ pub fn all(rows: &Rows) -> String {
     let full = |call: &str| format!("{call} on 32,768 events, microseconds a call:");
     let grown = "Growth of the judge, nanoseconds an event:";
     let plan_grown = "Growth of the plan reader, nanoseconds a byte:";
+    let rate = "The conversion on 32,768 events, millions of events a second, and ratios of times:";
+    let over = [CONVERSION, CONVERSION_C];
     let mut tables = vec![
         table(&full("The judge"), workloads, Row::micros, &JUDGING, &MEASURES),
         table(grown, growth, Row::nanos_an_event, &JUDGING, &MEASURES),
@@ -131,6 +135,7 @@ pub fn all(rows: &Rows) -> String {
         chains(&full("Long chains and short"), &rows.chains),
         table(&full("The plan reader"), plans, Row::micros, &READING, &[READER]),
         table(plan_grown, plan_growth, Row::nanos_a_byte, &READING, &[READER]),
+        table(rate, &rows.conversion, Row::millions, &CONVERTING, &over),
     ];
     if !again.is_empty() {
         let title = full("The judge and the one before");
@@ -160,7 +165,7 @@ fn long_over_short(pair: &[Row], peer: Peer) -> f64 {
 
 /// A line for each target that tells whether it is met.
 pub fn summary(rows: &Rows) -> String {
-    let Rows { workloads, growth, ordering, cards, chains, again, plans, plan_growth } = rows;
+    let Rows { workloads, growth, ordering, cards, chains, again, plans, plan_growth, .. } = rows;
     let judged = workloads.iter().chain(growth).map(|row| (row, OVER_TWO_ORDERS));
     let ordered = ordering.iter().map(|row| (row, OVER_TWO_ORDERS));
     let full = workloads.iter().filter(|row| row.events == MAX_EVENTS);

@@ -53,6 +53,13 @@ impl<T: Cell> Buffer<T> {
         Buffer { cells: before.clone(), before }
     }
 
+    /// These cells to lend, with a part of the dirt around them.
+    pub fn holding(dirt: &[u16], rng: &mut Rng, cells: &[T]) -> Self {
+        let mut buffer = Buffer::drawn(dirt, rng, cells.len());
+        buffer.lend().copy_from_slice(cells);
+        Buffer { before: buffer.cells.clone(), ..buffer }
+    }
+
     pub fn lend(&mut self) -> &mut [T] {
         let end = self.cells.len() - GUARD;
         &mut self.cells[GUARD..end]

@@ -3,6 +3,8 @@
 //! was met.
 
 use crate::buffer::{dirt, Buffer, Cell};
+use crate::conversions::Conversions;
+use crate::halts::MISNAMED;
 use crate::meaning;
 use crate::watch::watched;
 use racejudge_bench::ancestors::{Ancestors, Outcome};
@@ -11,6 +13,7 @@ use racejudge_bench::fasttrack::FastTrack;
 use racejudge_bench::ffi::{self, Judge, Record, Told, PROVED, TWO_ORDERS, UNION_FIND};
 use racejudge_bench::program::mismatch;
 use racejudge_bench::rng::Rng;
+use racejudge_bench::samples::active_before;
 use racejudge_bench::trace::*;
 use std::fmt::{Debug, Display};
 use std::sync::Arc;
@@ -76,6 +79,10 @@ pub struct Test {
     extent: Extent,
     /// How often it was held to what an answer means: clean, and race.
     meant: [usize; 2],
+    /// How often row 12 turned back a halt that names each of these.
+    misnamed: [usize; MISNAMED.len()],
+    /// Each trace that is judged is brought over too.
+    pub conversions: Conversions,
 }
 
 /// Up to so many events a trace is held to what its answer means.
@@ -96,6 +103,8 @@ impl Test {
             links: [0; MAX_LINKS + 1],
             extent: Extent::default(),
             meant: [0; 2],
+            misnamed: [0; MISNAMED.len()],
+            conversions: Conversions::new(seed),
         }
     }
 
@@ -103,10 +112,12 @@ impl Test {
         Buffer::drawn(&self.dirt, &mut self.rng, lent)
     }
 
-    /// The judge on a trace, with slices as long as needed or a little longer.
+    /// The judge on a trace, with slices as long as needed or a little longer; and the conversion.
     pub fn judge(&mut self, trace: &Trace) -> Answer {
         let lent = needed(trace).map(|need| need + self.rng.below(3));
-        self.judge_with(trace, lent)[0]
+        let said = self.judge_with(trace, lent)[0];
+        self.conversions.all_of(trace, said);
+        said
     }
 
     /// What the library itself answers without cards and with them, which is counted.
@@ -118,8 +129,10 @@ impl Test {
         if !matches!(judged, Answer::Refused(..)) {
             self.links[wanted.links] += 1;
         }
-        if judged == Answer::Clean {
-            self.extent = self.extent.max(Extent::of(trace));
+        match judged {
+            Answer::Clean => self.extent = self.extent.max(Extent::of(trace)),
+            Answer::Refused(12, p) => self.count_misnamed(trace, p),
+            _ => {}
         }
         self.same_race(trace, judged);
         self.same_meaning(trace, &wanted);
@@ -128,6 +141,13 @@ impl Test {
         self.carded.count(carded);
         self.same_cards(trace, &wanted);
         [judged, carded]
+    }
+
+    fn count_misnamed(&mut self, trace: &Trace, p: usize) {
+        let (active, operand) = (active_before(trace, p), trace.operands[p]);
+        for ((_, named), count) in MISNAMED.iter().zip(&mut self.misnamed) {
+            *count += usize::from(named(&active, operand));
+        }
     }
 
     /// What one judge tells, or how that or what it leaves differs from what is wanted.
@@ -273,7 +293,8 @@ impl Test {
         first_difference(&call, trace, wanted, differences).map_or(Ok(told), Err)
     }
 
-    /// The judge, now and then also on short buffers, and the ordering call on a few pairs.
+    /// The judge and the conversion, now and then also on short buffers, and the ordering call on a few
+    /// pairs.
     pub fn both(&mut self, trace: &Trace, pairs: usize) -> Answer {
         let said = self.judge(trace);
         if self.rng.chance(1, 16) {
@@ -281,6 +302,7 @@ impl Test {
                 |need: usize| if self.rng.chance(1, 2) { need } else { self.rng.below(need + 1) };
             let lent = needed(trace).map(&mut lent);
             self.judge_with(trace, lent);
+            self.conversions.convert_with(&trace.stored(), lent[0]);
             self.ordering_with(trace, lent[0], 0, 0);
         }
         for _ in 0..pairs {
@@ -320,7 +342,11 @@ impl Test {
         let links = self.links.map(|count| format!(" {count}"));
         table += &format!("links of the judge, 0 to {MAX_LINKS}:{}\n", links.concat());
         let [clean, race] = self.meant;
-        table + &format!("held to what reads see: {clean} clean traces, {race} races\n")
+        table += &format!("held to what reads see: {clean} clean traces, {race} races\n");
+        let named = MISNAMED.iter().zip(self.misnamed);
+        let named: Vec<String> =
+            named.map(|((name, _), count)| format!("{name} {count}")).collect();
+        table + &format!("refused 12 of a halt that names: {}\n", named.join(", "))
     }
 
     /// What a call can give but never gave, or the limits if they were not met.
@@ -333,17 +359,23 @@ impl Test {
         let links = never.map(|links| format!("{links} links"));
         let limits = (self.extent != LIMITS).then(|| format!("{LIMITS:?}, but {:?}", self.extent));
         let meant = self.meant.contains(&0).then(|| "what an answer means".to_string());
-        judged.or(carded).or(ordered).or(links).or(limits).or(meant)
+        let never = self.misnamed.iter().position(|&count| count == 0);
+        let misnamed =
+            never.map(|at| format!("refused 12 of a halt that names {}", MISNAMED[at].0));
+        let converted = self.conversions.missing();
+        judged.or(carded).or(ordered).or(links).or(limits).or(meant).or(misnamed).or(converted)
     }
 
     pub fn closing_line(&self, translated: usize, planned: usize) -> String {
         let [judged, carded, ordered] =
             [&self.judged, &self.carded, &self.ordered].map(Counts::sum);
+        let converted = self.conversions.calls();
         let Extent { events, tasks } = self.extent;
         format!(
             "{judged} calls of the judge, {carded} of the judge with cards, {ordered} of the \
-             ordering call, {translated} of the translation and {planned} of the plan reader, up to \
-             {events} events, {tasks} tasks and chains of {MAX_LINKS} links: no mismatch\n"
+             ordering call, {converted} of the conversion, {translated} of the translation and \
+             {planned} of the plan reader, up to {events} events, {tasks} tasks and chains of \
+             {MAX_LINKS} links: no mismatch\n"
         )
     }
 }

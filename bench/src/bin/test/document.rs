@@ -124,6 +124,8 @@ pub fn texts() {
         known(text::answer(input), output.to_string(), format_args!("the text {shown:?}"));
     };
     said(b"T0|fork(T1)|10\nT1|w(V5)|20\nT0|r(V5)|30\n", "race 1 3\n0 1 3 2\n0 3 1 2\n");
+    // Task 1 resumes where task 2 halts.
+    said(b"T0|fork(T1)|1\nT1|fork(T2)|2\nT0|r(V5)|3\n", "clean 5\n");
     said(b"", "clean 0\n");
     said(b"T0|r(5)|1\n", "refused 14 0\n");
     said(b"T0|r(V5)|1\nT0|r(V05)|1\n", "refused 14 1\n");

@@ -186,6 +186,7 @@ const PLACES: usize = 300;
 fn places(test: &mut Test) {
     for p in 0..PLACES {
         flaws_at(test, p);
+        halts_at(test, 2 + p);
     }
     for (one, other) in CONFLICTING {
         for place in 1..PLACES {
@@ -215,6 +216,19 @@ fn races_at(test: &mut Test, t: usize, one: u8, other: u8, others: u8) {
     known(test.judge(&trace), Answer::Race(1, t), &trace);
 }
 
+/// Event p is the halt of task 2, which task 1 has forked and which has read so far.
+fn halts_at(test: &mut Test, p: usize) {
+    for operand in [1, 0, 2, 3, 1_025, u16::MAX] {
+        let mut all = vec![(2, READ, 3); 2 + PLACES];
+        all[..2].copy_from_slice(&[(0, FORK, 1), (1, FORK, 2)]);
+        all[p] = (2, HALT, operand);
+        all[p + 1..].fill((1, READ, 3));
+        let trace = Trace::of(&all);
+        let said = if operand == 1 { Answer::Clean } else { Answer::Refused(12, p) };
+        known(test.judge(&trace), said, &trace);
+    }
+}
+
 /// Event p breaks a rule, or lets the next one break it.
 fn flaws_at(test: &mut Test, p: usize) {
     const ANY: Event = (0, READ, 3);
@@ -233,6 +247,8 @@ fn flaws_at(test: &mut Test, p: usize) {
         ((0, JOIN, 1), 11),
         ((0, JOIN, LAST), 11),
         ((0, HALT, 1), 12),
+        ((0, HALT, 1_024), 12),
+        ((0, HALT, LAST), 12),
     ];
     let next = [
         ([(0, HALT, 0), ANY], 6),
@@ -242,6 +258,7 @@ fn flaws_at(test: &mut Test, p: usize) {
         ([(0, HALT, 0), (LAST, HALT, 0)], 6),
         ([(0, FORK, 1), ANY], 7),
         ([(0, FORK, 1), (1, FORK, 1)], 10),
+        ([(0, FORK, 1), (1, HALT, 1)], 12),
     ];
     let at_once = at_once.map(|(event, row)| ([event, ANY], row, p));
     let next = next.map(|(events, row)| (events, row, p + 1));

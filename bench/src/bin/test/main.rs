@@ -1,13 +1,16 @@
 //! Compares the linked judges with the all-ancestors judge, on document 01's runs, on every short
-//! trace, at the limits, on chains of joins, on counters, on long traces and on random ones, whole
-//! and damaged; the library's translation of texts with the slow judge's own; and the plan readers
-//! with a slow one and with what plans mean. The first difference is printed with its trace or text
-//! and ends the test with status 1. `--seed N` draws others, `--times N` draws more.
+//! trace, at the limits, on chains of joins, on counters, on nests, on long traces and on random ones,
+//! whole and damaged; on the same traces the conversions with a slow one; the library's translation of
+//! texts with the slow judge's own; and the plan readers with a slow one and with what plans mean. The
+//! first difference is printed with its trace or text and ends the test with status 1. `--seed N`
+//! draws others, `--times N` draws more.
 
 mod buffer;
 mod chains;
 mod compare;
+mod conversions;
 mod document;
+mod halts;
 mod limits;
 mod meaning;
 mod plans;
@@ -21,7 +24,7 @@ mod watch;
 use compare::{known, Test};
 use plans::PLANS;
 use racejudge_bench::ffi;
-use racejudge_bench::line::Line;
+use racejudge_bench::line::{names_resumed, Line};
 use racejudge_bench::program::{fail, print};
 use racejudge_bench::samples;
 use racejudge_bench::trace::*;
@@ -36,24 +39,35 @@ fn every_short(test: &mut Test, trace: &Trace, forked: u16, more: usize) {
     test.both(trace, 1);
     for task in 0..=forked + 1 {
         for (kind, operand) in short_events(trace, forked) {
-            let mut line = Line::start();
+            let mut line = Line::start(names_resumed);
             for p in 0..trace.len() {
                 let (task, kind, operand) = trace.event(p);
                 line.step(task, kind, operand).expect("only traces that keep the rules go on");
             }
-            let mut longer = trace.clone();
-            longer.push(task, kind, operand);
             match line.step(task, kind, operand) {
                 Ok(()) if more > 0 => {
+                    let mut longer = trace.clone();
+                    longer.push(task, kind, operand);
                     every_short(test, &longer, forked + u16::from(kind == FORK), more - 1);
                 }
                 Ok(()) => {}
-                // A wrong actor is a wrong actor whatever it does.
-                Err(7) if kind != READ || operand != 0 => {}
-                Err(_) => _ = test.judge(&longer),
+                // A wrong actor is a wrong actor whatever it does; but it must not be taken to halt.
+                Err(7) if !matches!((kind, operand), (READ | HALT, 0)) => {}
+                Err(_) => broken(test, trace, (task, kind, operand), forked),
             }
         }
     }
+}
+
+/// An event that breaks a rule behind a trace that keeps them; and the same as it was stored, with
+/// halts behind that event, which stay as they are where it broke a rule then too.
+fn broken(test: &mut Test, trace: &Trace, event: Event, forked: u16) {
+    let [mut longer, mut stored] = [trace.clone(), trace.stored()];
+    longer.insert(trace.len(), event);
+    test.judge(&longer);
+    stored.insert(trace.len(), event);
+    (0..=forked).rev().for_each(|task| stored.push(task, HALT, 0));
+    test.conversions.whole(&stored);
 }
 
 fn short_events(trace: &Trace, forked: u16) -> Vec<(u8, u16)> {
@@ -63,8 +77,8 @@ fn short_events(trace: &Trace, forked: u16) -> Vec<(u8, u16)> {
     }
     events.extend([(READ, 1_024), (SUM, 1_024)]);
     events.extend([(FORK, forked + 1), (FORK, forked), (FORK, 1_024)]);
-    events.extend((0..=forked + 1).map(|task| (JOIN, task)));
-    events.extend([(HALT, 0), (HALT, 1), (NO_KIND, 0)]);
+    events.extend((0..=forked + 1).flat_map(|task| [(JOIN, task), (HALT, task)]));
+    events.extend([(HALT, u16::MAX), (NO_KIND, 0)]);
     events
 }
 
@@ -121,6 +135,9 @@ fn main() {
     limits::all(&mut test);
     print(&format!("{} wrong tables of joins noticed\n", chains::all(&mut test)));
     print(&format!("{} wrong judges of sums noticed\n", sums::all(&mut test)));
+    let [rules, conversions] = halts::all(&mut test);
+    print(&format!("{rules} wrong rules for halts noticed\n"));
+    print(&format!("{conversions} wrong conversions noticed\n"));
     long_traces(&mut test);
     random_traces(&mut test, times);
     print(&format!("{} wrong traces of plans noticed\n", reach::wrong_traces(&mut test)));
@@ -129,6 +146,7 @@ fn main() {
     texts::all(&mut texts, times);
     plans::all(&mut plans, times);
     print(&test.table());
+    print(&test.conversions.table());
     print(&texts.table());
     print(&plans.table());
     print(&reach.line());

@@ -44,7 +44,7 @@ const RUNS: [(&str, &str); 6] = [
     ("S(w3,P(r3,r3))", "0 write 3, 0 fork 1, 1 read 3, 1 halt, 0 read 3, 0 join 1"),
     (
         "P(P(r1,w2),s3)",
-        "0 fork 1, 1 fork 2, 2 read 1, 2 halt, 1 write 2, 1 join 2, 1 halt, 0 sum 3, 0 join 1",
+        "0 fork 1, 1 fork 2, 2 read 1, 2 halt 1, 1 write 2, 1 join 2, 1 halt, 0 sum 3, 0 join 1",
     ),
     (
         "P(r1,P(w2,s3))",

@@ -1,6 +1,7 @@
 //! Wrong expectations: a comparison that did not notice them would notice no wrong judge either.
 
 use crate::compare::{needed, Lent, Test, JUDGES};
+use crate::conversions::CONVERTERS;
 use crate::document::{
     trace, COUNTED, JOINED_BY_WAY_OF_A_SIBLING, JOINS_A_SIBLING, SUM_AND_READ, SUM_AND_WRITE,
     TWO_READERS, TWO_SUMS, WRITES_TWICE, WRITE_AMONG_SUMS,
@@ -9,6 +10,7 @@ use crate::plans::PLANS;
 use crate::reading::{Form, Reading, Text, Wanted};
 use crate::texts::TEXTS;
 use racejudge_bench::ancestors::Outcome;
+use racejudge_bench::convert::{convert, Converted};
 use racejudge_bench::program::fail;
 use racejudge_bench::trace::*;
 use std::fmt::Debug;
@@ -19,10 +21,14 @@ type Change<T> = fn(&mut Outcome<T>);
 /// A join of what was joined before is refused by 11.
 const JOINS_TWICE: &str = "0 fork 1, 1 halt, 0 join 1, 0 join 1";
 
+/// The halt names the task that resumes, or it does not.
+const NESTED: &str = "0 fork 1, 1 fork 2, 2 halt 1";
+const MISNAMED: &str = "0 fork 1, 1 fork 2, 2 halt";
+
 /// A run, and what is made wrong of what is wanted: the answer, the cleared cells, an order, the
 /// links of a race, of a clean trace and of a refusal; and what is said where a sum is refused, is
-/// held against a sum, or is not held against a read or a write.
-const JUDGED: [(&str, &[Change<Answer>]); 9] = [
+/// held against a sum, or is not held against a read or a write, and where a halt names 0.
+const JUDGED: [(&str, &[Change<Answer>]); 11] = [
     (
         WRITES_TWICE,
         &[
@@ -37,6 +43,15 @@ const JUDGED: [(&str, &[Change<Answer>]); 9] = [
     (JOINS_A_SIBLING, LINKS),
     (JOINED_BY_WAY_OF_A_SIBLING, LINKS),
     (JOINS_TWICE, &[|wanted| wanted.links += 1]),
+    (NESTED, &[|wanted| wanted.said = Answer::Refused(12, 2)]),
+    (
+        MISNAMED,
+        &[
+            |wanted| wanted.said = Answer::Clean,
+            |wanted| wanted.said = Answer::Refused(11, 2),
+            |wanted| wanted.said = Answer::Refused(12, 1),
+        ],
+    ),
     (
         TWO_SUMS,
         &[
@@ -144,12 +159,45 @@ const ORDERED: [Change<Ordering>; 3] = [
     |wanted| wanted.cleared += 1,
 ];
 
+type ConvertChange = fn(&mut Converted);
+
+/// A stored run, how many cells the workspace has beside those that it needs, and what is made wrong
+/// of what is wanted: the answer, the operand of a halt, of a join, of what breaks a rule and of a halt
+/// behind that, and the cleared cells.
+const CONVERTED: [(&str, isize, &[ConvertChange]); 2] = [
+    (
+        "0 fork 1, 1 fork 2, 2 halt, 1 fork 3, 3 join 2, 3 halt, 1 halt 5, 1 halt",
+        1,
+        &[
+            |wanted| wanted.said = Conversion::Refused(3),
+            |wanted| wanted.operands[2] = 0,
+            |wanted| wanted.operands[4] = 1,
+            |wanted| wanted.operands[5] = 2,
+            |wanted| wanted.operands[6] = 0,
+            |wanted| wanted.operands[7] = 1,
+            |wanted| wanted.cleared -= 1,
+            |wanted| wanted.cleared += 1,
+        ],
+    ),
+    (
+        MISNAMED,
+        -1,
+        &[
+            |wanted| wanted.said = Conversion::Done,
+            |wanted| wanted.said = Conversion::Refused(2),
+            |wanted| wanted.operands[2] = 1,
+            |wanted| wanted.cleared += 1,
+        ],
+    ),
+];
+
 type ReadChange = fn(&mut Wanted);
 
 /// A form and a text, how many cells are lent beside those that it needs, and what is made wrong of
-/// what is wanted: the answer, an event in each slice, the first cell behind the events. Of a plan
-/// also how it forks, which operand comes first, what is joined and when, and which byte is refused.
-const READINGS: [(&Form, &str, isize, &[ReadChange]); 9] = [
+/// what is wanted: the answer, an event in each slice, what a halt names, the first cell behind the
+/// events. Of a plan also how it forks, which operand comes first, what is joined and when, and which
+/// byte is refused.
+const READINGS: [(&Form, &str, isize, &[ReadChange]); 10] = [
     (
         &TEXTS,
         "T0|fork(T1)|1\nT0|r(V5)|2\n",
@@ -162,6 +210,16 @@ const READINGS: [(&Form, &str, isize, &[ReadChange]); 9] = [
             |wanted| wanted.events.operands[2] += 1,
             |wanted| wanted.events.truncate(2),
             |wanted| wanted.events.push(0, READ, 0),
+        ],
+    ),
+    (
+        &TEXTS,
+        "T0|fork(T7)|1\nT7|fork(T2)|2\nT0|r(V5)|3\n",
+        0,
+        &[
+            |wanted| events(wanted, "0 fork 7, 7 fork 2, 2 halt, 7 halt, 0 read 5"),
+            |wanted| events(wanted, "0 fork 7, 7 fork 2, 2 halt 2, 7 halt 7, 0 read 5"),
+            |wanted| events(wanted, "0 fork 7, 7 fork 2, 2 halt 7, 7 halt 7, 0 read 5"),
         ],
     ),
     (
@@ -192,15 +250,20 @@ const READINGS: [(&Form, &str, isize, &[ReadChange]); 9] = [
             |wanted| wanted.events.push(0, HALT, 0),
         ],
     ),
-    // The inner fork comes second.
+    // The inner fork comes second, and the inner halt resumes the outer task.
     (
         &PLANS,
         "P(P(r1,r1),r1)",
         0,
-        &[|wanted| {
-            let inner = "2 fork 1, 1 read 1, 1 halt, 2 read 1, 2 join 1";
-            events(wanted, &format!("0 fork 2, {inner}, 2 halt, 0 read 1, 0 join 2"));
-        }],
+        &[
+            |wanted| {
+                let inner = "2 fork 1, 1 read 1, 1 halt 2, 2 read 1, 2 join 1";
+                events(wanted, &format!("0 fork 2, {inner}, 2 halt, 0 read 1, 0 join 2"));
+            },
+            |wanted| wanted.events.operands[3] = 0,
+            |wanted| wanted.events.operands[3] = 2,
+            |wanted| wanted.events.operands[6] = 1,
+        ],
     ),
     (
         &PLANS,
@@ -256,7 +319,8 @@ pub fn all() -> usize {
     let mut test = Test::new(1);
     // A cell that is not cleared is not 0, and a record that is not written is no card.
     test.dirt.fill(u16::MAX);
-    judged(&mut test) + carded(&mut test) + ordered(&mut test) + read()
+    test.conversions.dirt.fill(u16::MAX);
+    judged(&mut test) + carded(&mut test) + ordered(&mut test) + converted(&mut test) + read()
 }
 
 /// What the judge needs, with a cell of the workspace more and so many cards.
@@ -303,6 +367,22 @@ fn ordered(test: &mut Test) -> usize {
         noticed(test.ordered_by(judge, &trace, workspace, pair, &wanted), &wanted);
     }
     JUDGES.len() * ORDERED.len()
+}
+
+fn converted(test: &mut Test) -> usize {
+    for (run, spare, changes) in CONVERTED {
+        let trace = trace(run);
+        let workspace = (WORKSPACE + trace.len()).saturating_add_signed(spare);
+        for change in changes {
+            let mut wanted = convert(&trace, workspace);
+            change(&mut wanted);
+            for converter in CONVERTERS {
+                let told = test.conversions.converted_by(converter, &trace, workspace, &wanted);
+                noticed(told, &wanted);
+            }
+        }
+    }
+    CONVERTERS.len() * CONVERTED.iter().map(|(.., changes)| changes.len()).sum::<usize>()
 }
 
 fn read() -> usize {

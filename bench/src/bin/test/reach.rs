@@ -176,7 +176,7 @@ fn other(plan: &Plan, change: Other) -> Plan {
 /// What is wrong with the events of a plan.
 type Edit = fn(Vec<Event>) -> Vec<Event>;
 
-const EDITS: [(&str, Edit); 6] = [
+const EDITS: [(&str, Edit); 7] = [
     ("a task is joined as soon as it has halted", joined_at_once),
     ("a task is not joined", |events| {
         let last = events.iter().rposition(|event| event.1 == JOIN);
@@ -184,10 +184,8 @@ const EDITS: [(&str, Edit); 6] = [
         kept.map(|(_, event)| event).collect()
     }),
     ("a task does not halt", |events| events.into_iter().filter(|event| event.1 != HALT).collect()),
-    ("a halt names a task", |events| {
-        let named = |(task, kind, operand)| (task, kind, if kind == HALT { 1 } else { operand });
-        events.into_iter().map(named).collect()
-    }),
+    ("a halt names 0", |events| halts_name(events, |_| 0)),
+    ("a halt names its own task", |events| halts_name(events, |task| task)),
     ("tasks are numbered in the order of their halts", renumbered),
     ("a sum is a write", |events| {
         let written =
@@ -195,6 +193,13 @@ const EDITS: [(&str, Edit); 6] = [
         events.into_iter().map(written).collect()
     }),
 ];
+
+/// Each halt names this of its task.
+fn halts_name(events: Vec<Event>, name: fn(u16) -> u16) -> Vec<Event> {
+    let named =
+        |(task, kind, operand)| (task, kind, if kind == HALT { name(task) } else { operand });
+    events.into_iter().map(named).collect()
+}
 
 fn joined_at_once(events: Vec<Event>) -> Vec<Event> {
     let (joins, others): (Vec<Event>, Vec<Event>) =
@@ -211,7 +216,7 @@ fn renumbered(events: Vec<Event>) -> Vec<Event> {
     let order: Vec<u16> = [0].into_iter().chain(halts.map(|event| event.0)).collect();
     let number = |task: u16| order.iter().position(|&other| other == task).unwrap_or(0) as u16;
     let renumbered = |(task, kind, operand)| {
-        let names = matches!(kind, FORK | JOIN);
+        let names = matches!(kind, FORK | JOIN | HALT);
         (number(task), kind, if names { number(operand) } else { operand })
     };
     events.into_iter().map(renumbered).collect()

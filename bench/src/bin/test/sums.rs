@@ -6,6 +6,7 @@ use crate::meaning;
 use racejudge_bench::ancestors::{conflict, Ancestors, Conflict};
 use racejudge_bench::builder::Builder;
 use racejudge_bench::cards::cards;
+use racejudge_bench::line::names_resumed;
 use racejudge_bench::program::fail;
 use racejudge_bench::rng::Rng;
 use racejudge_bench::trace::*;
@@ -206,7 +207,7 @@ const WRONG: [(&str, Conflict); 12] = [
 /// Each gives a wrong answer to some of the pairs, and one that does not mean what it says.
 fn wrong_judges(pairs: &[Known]) -> usize {
     for (name, conflict) in WRONG {
-        let (mut judge, mut rng) = (Ancestors::by(conflict), Rng::new(1));
+        let (mut judge, mut rng) = (Ancestors::by(conflict, names_resumed), Rng::new(1));
         let (mut other, mut meaningless) = (false, false);
         for (trace, said) in pairs {
             let n = trace.len();

@@ -93,9 +93,10 @@ pub fn collision(scene: &Scene, row: usize, p: usize) -> Reason {
         9 => (above("tasks", event.operand, TASKS), LARGE_NUMBERS),
         10 => used(scene, event.operand),
         11 => not_neighbour(scene, event.operand, p),
-        _ => (halt_operand(event.operand), OTHER_PROGRAM),
+        _ => not_resuming(scene, event.operand, p),
     };
-    Reason { state, hint: Hint { cause, ..Hint::default() } }
+    let advice = if cause == STORED { CONVERT } else { "" };
+    Reason { state, hint: Hint { cause, advice } }
 }
 
 const OTHER_PROGRAM: &str = "the program that wrote the file does not know the binary form";
@@ -112,14 +113,15 @@ const WRONG_ORDER: &str = "events stand in the wrong order";
 const WRONG_NUMBER: &str = "the number of the joined task is wrong";
 const NO_JOIN: &str = "a join is missing, or joins stand in the wrong order";
 const JOINED_TWICE: &str = "the join was recorded twice, or its number is wrong";
+const STORED: &str = "the trace was stored when the operand of every halt was 0";
+const NAMES_ITSELF: &str = "the recorder names the task that halts, and not the one that resumes";
+const WRONG_RESUMED: &str = "the number of the task that resumes is wrong";
+
+const CONVERT: &str = "`judge convert OLD NEW` brings such a trace over.";
 
 fn unknown_kind(kind: u8) -> Vec<String> {
     let names = Kind::ALL.map(|kind| format!("{} {kind}", kind.number())).join(", ");
     vec![format!("Its kind is {kind}. The kinds are {names}.")]
-}
-
-fn halt_operand(operand: u16) -> Vec<String> {
-    vec![format!("A halt names nothing, so its operand must be 0. Here it is {operand}.")]
 }
 
 fn ended(scene: &Scene) -> Vec<String> {
@@ -178,6 +180,24 @@ fn not_neighbour(scene: &Scene, named: u16, p: usize) -> (Vec<String>, &'static 
         }
     };
     (state, cause)
+}
+
+/// Row 12.
+fn not_resuming(scene: &Scene, named: u16, p: usize) -> (Vec<String>, &'static str) {
+    let Some(resumes) = scene.graph.parent_before(p) else {
+        let end = "When task 0 halts no task resumes, so the operand must be 0.";
+        return (vec![format!("{end} Here it is {named}.")], OTHER_PROGRAM);
+    };
+    let rule = "A halt names the task that resumes, the parent of the one that halts.";
+    let found = format!("Here that is task {resumes}, but task {named} is named.");
+    let whereabouts = Whereabouts::of(scene, named, p);
+    let cause = match whereabouts {
+        _ if named == 0 => STORED,
+        Whereabouts::Nowhere => LARGE_NUMBERS,
+        Whereabouts::Running => NAMES_ITSELF,
+        _ => WRONG_RESUMED,
+    };
+    (vec![format!("{rule} {found}"), whereabouts.tell(scene, named)], cause)
 }
 
 fn first_joined(nearer: Vec<u16>) -> String {

@@ -45,6 +45,10 @@ impl Story<'_> {
                 Some(task) => format!("The left neighbour is task {task}."),
                 None => "There is no task at its left.".into(),
             }),
+            12 => Some(match self.graph.parent_before(p) {
+                Some(task) => format!("Task {task} resumes."),
+                None => "No task resumes.".into(),
+            }),
             _ => None,
         }
     }
@@ -163,7 +167,7 @@ pub fn label(event: Event) -> String {
         Some(Kind::Write) => format!("w {operand}"),
         Some(Kind::Fork) => format!("fork {operand}"),
         Some(Kind::Join) => format!("join {operand}"),
-        Some(Kind::Halt) => "halt".into(),
+        Some(Kind::Halt) => format!("halt {operand}"),
         Some(Kind::Sum) => format!("s {operand}"),
         None => format!("kind {kind}"),
     }

@@ -13,6 +13,12 @@ abbrev μ-loop : tie.MeasureT-loop
 μ-loop stack base depth kinds₀ tasks₀ operands₀ from place₀ at₀ kinds tasks operands place at =
     place
 
+loop-again : tie.Need-loop-again Inv-loop μ-loop
+loop-again c =
+    let filled = c .before .before .before .before .before in
+    let turn = filled .before in
+    halting-more _ _ _ _ _ _ _ _ (turn .before .loop .inv) (turn .loop-test .taken) _ (filled .halt-operand .ensures) _ (c .store-event .ensures)
+
 pub halt-above-spec : {M : Type 1} → statement M
 halt-above-spec =
     tie.close
@@ -27,5 +33,5 @@ halt-above-spec =
     (λ c κs. search needs)
     (λ c. search needs)
     (λ c. search needs)
-    (λ c. search halting-more)
+    loop-again
     (λ c. search halting-whole))
