@@ -7,14 +7,10 @@ use lib.ListN.{length, set, drop, getD, length-map, length-append, length-drop}
 use lib.Seq.{drop-cons, append-snoc, set-at, getD-set-same, getD-set-other}
 use Rattle.trace.specs.Orders.{countUp, positions}
 use Rattle.trace.proofs.Tests.{either, last-or-below}
-use Rattle.trace.proofs.Lists.{positions-snoc}
+use Rattle.trace.proofs.Lists.{length-countUp, positions-snoc}
 use Rattle.cards.specs.declared.Card.{Card}
 use Rattle.cards.specs.Cards.{withCards}
 use Rattle.cards.specs.Demands.{blank}
-
-length-countUp : (k m : ℕ) → length (countUp k m) ≡ m
-length-countUp k zero = refl
-length-countUp k (suc m) = ap suc (length-countUp (suc k) m)
 
 map-snoc : (card : ℕ → Card) (xs : List ℕ) (x : ℕ) → map card (xs ++ (x ∷ [])) ≡ map card xs ++ (card x ∷ [])
 map-snoc card [] x = refl

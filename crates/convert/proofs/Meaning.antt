@@ -15,6 +15,7 @@ use Rattle.trace.specs.Line.{Line, Checked, passes, fails, haltOperand, haltOpe
 use Rattle.trace.specs.Graph.{graphEvents}
 use Rattle.trace.specs.Orders.{countUp, positions}
 use Rattle.trace.specs.Outcome.{says, Verdict, sizes, judgement}
+use Rattle.trace.proofs.Lists.{length-countUp}
 use Rattle.trace.proofs.Lines.{line-more, graph-ge, graph-broken, passes-not-fails}
 use Rattle.trace.proofs.Sizes.{sized, sizes-row, refused-not-says}
 use Rattle.trace.proofs.Demand1.{cleared-zero, size-refusal}
@@ -24,10 +25,6 @@ use Rattle.convert.specs.Demands.{ConvertDemand1, HaltsSet, ConvertSets,
 use Rattle.convert.specs.States.{SetBefore}
 
 -- ---- the operands, one by one
-
-length-countUp : (k n : ℕ) → length (countUp k n) ≡ n
-length-countUp k zero = refl
-length-countUp k (suc n) = ap suc (length-countUp (suc k) n)
 
 getD-mapped : (f : ℕ → ℕ) (k n i : ℕ) → i < n → getD (map f (countUp k n)) i 0 ≡ f (k + i)
 getD-mapped f k zero i h = absurd (omega arith)

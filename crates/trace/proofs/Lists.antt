@@ -430,6 +430,10 @@ rising-countUp k (suc m) = (
   rising-countUp (suc k) m,
 )
 
+pub length-countUp : (k m : ℕ) → length (countUp k m) ≡ m
+length-countUp k zero = refl
+length-countUp k (suc m) = ap suc (length-countUp (suc k) m)
+
 pub countUp-snoc : (k m : ℕ) → countUp k (suc m) ≡ countUp k m ++ ((k + m) ∷ [])
 countUp-snoc k zero = rw add-zero
 countUp-snoc k (suc m) =
