@@ -1,13 +1,16 @@
 /* The fork-join race judge: a trace of one run of a fork-join program, judged for data races.
- * Six calls: racejudge_translate (text to a trace), racejudge_plan (a plan to a trace),
+ * Seven calls: racejudge_translate (text to a trace), racejudge_plan (a plan to a trace),
  * racejudge_convert (a trace of version 4 to one of this version), racejudge_judge,
- * racejudge_judge_cards (the same, with a card for each location), racejudge_ordering.
+ * racejudge_judge_cards (the same, with a card for each location), racejudge_pairs (every close pair of
+ * accesses that race), racejudge_ordering.
  *
- * VERSION 5. The operand of a halt names the task that resumes, and row 12 asks for that; up to version
- * 4 it had to be 0. racejudge_convert is new. A caller of version 4 has two things to do: the recorder
- * must write the task that resumes, and each trace that is stored goes once through racejudge_convert,
- * also one that was translated from a text or a plan. Texts and plans themselves stay as they are:
- * the halts that are put in now name the task that resumes. All else is as it was.
+ * VERSION 6. racejudge_pairs and its row 20 are new. All else is as it was in version 5.
+ *
+ * Version 5 had changed the operand of a halt, which names the task that resumes, and row 12, which asks
+ * for that; up to version 4 it had to be 0. It had brought racejudge_convert. A caller of version 4 has
+ * two things to do: the recorder must write the task that resumes, and each trace that is stored goes
+ * once through racejudge_convert, also one that was translated from a text or a plan. Texts and plans
+ * themselves stay as they are: the halts that are put in now name the task that resumes.
  *
  * Version 4 had brought racejudge_plan and its rows 17 to 19. Version 3 had brought kind 5, a sum, which
  * version 2 refused by row 5, and cards that count sums: for version 2 a caller lent records of 8 bytes,
@@ -52,14 +55,14 @@
  * tasks, under the top of the larger; at equal size the joiner's top stays on top. No link changes
  * otherwise. From no task to the top of its tree are there more than RACEJUDGE_MAX_LINKS links.
  *
- * THE WORKSPACE of both judges, the ordering call and the conversion has at least RACEJUDGE_WORKSPACE + n
- * cells for n events, with any contents. After the refusals 1 to 4 and 16 it is unchanged. After every
+ * THE WORKSPACE of both judges, the ordering call, the conversion and the call for pairs has at least
+ * RACEJUDGE_WORKSPACE + n cells for n events, with any contents. After the refusals 1 to 4 and 16 it is unchanged. After every
  * other answer its first RACEJUDGE_WORKSPACE + n cells are 0 and the rest is unchanged.
  *
  * A REFUSAL has the number of the first condition that holds, and a position: that of the event for
  * 5 to 12, that of the line for 14 and 15, that of the byte for 17 and 18, else 0. The checks go 1 to
- * 4, then 16; then for each event 5, 6, 7 and the one for its kind; 13 last. The conversion has rows 1
- * to 3 alone. Rows 14 and 15 are the translation's, and are all that it has. Rows 17 to 19 are all that a
+ * 4, then 16; then for each event 5, 6, 7 and the one for its kind; 13 or 20 last. The conversion has
+ * rows 1 to 3 alone. Rows 14 and 15 are the translation's, and are all that it has. Rows 17 to 19 are all that a
  * plan has: of 17 and 18 the first that is met, from the first byte on, and 19 once the whole plan is
  * read.
  *    1  the three slices differ in length
@@ -82,6 +85,7 @@
  *   18  that byte, counted from 0, is an S or P that opens level 65
  *   19  a slice has fewer cells than the plan has events, or the plan needs more than 1,024 tasks,
  *       task 0 among them, or more than 32,768 events
+ *   20  a slice for the pairs has fewer cells than there are close pairs (the call for pairs only)
  *
  * A TEXT has one event a line, each line ended by a line feed:
  *   Ta|r(Vb)|c      task a reads location b
@@ -117,7 +121,7 @@ extern "C" {
 /* Kinds of event. */
 enum { RACEJUDGE_READ, RACEJUDGE_WRITE, RACEJUDGE_FORK, RACEJUDGE_JOIN, RACEJUDGE_HALT, RACEJUDGE_SUM };
 
-#define RACEJUDGE_VERSION 5
+#define RACEJUDGE_VERSION 6
 
 #define RACEJUDGE_MAX_EVENTS 32768
 #define RACEJUDGE_MAX_LINKS 10
@@ -132,6 +136,14 @@ enum { RACEJUDGE_READ, RACEJUDGE_WRITE, RACEJUDGE_FORK, RACEJUDGE_JOIN, RACEJUDG
 /* One card for each location, and the positions on that of a location which no event touches. */
 #define RACEJUDGE_CARDS 1024
 #define RACEJUDGE_NOWHERE 65535
+
+/* A pair s, t is close if t - s is at most this. */
+#define RACEJUDGE_CLOSE 256
+
+/* A trace of n events has no more close pairs than this: 8,355,712 at the most. */
+#define RACEJUDGE_MAX_PAIRS(n) \
+    ((size_t)(n) <= RACEJUDGE_CLOSE ? (size_t)(n) * ((size_t)(n) - ((n) != 0)) / 2 \
+                                    : RACEJUDGE_CLOSE * (size_t)(n) - 32896)
 
 /* A location's card: how many reads, writes and sums it has, and the positions of the first and the last
  * of them all, RACEJUDGE_NOWHERE for both where there is none. */
@@ -151,7 +163,10 @@ enum { RACEJUDGE_TRANSLATED = 0, RACEJUDGE_SHORT = 3 };
 /* What racejudge_convert returns. */
 enum { RACEJUDGE_CONVERTED = 0 };
 
-/* What all six return for a refusal. */
+/* What racejudge_pairs returns. */
+enum { RACEJUDGE_LISTED = 0 };
+
+/* What all seven return for a refusal. */
 enum { RACEJUDGE_REFUSED = 2 };
 
 /* Judges the whole trace. Returns, and stores in values[0] to values[2]:
@@ -186,6 +201,20 @@ uint64_t racejudge_judge_cards(const uint8_t *kinds, size_t kinds_len, const uin
                                uint16_t *workspace, size_t workspace_len, uint16_t *first,
                                size_t first_len, uint16_t *second, size_t second_len,
                                racejudge_card *cards, size_t cards_len, uint64_t values[3]);
+
+/* Lists every close pair of the trace: each two accesses s and t that race, with s < t and t - s at most
+ * RACEJUDGE_CLOSE, in order of t and then of s, each pair once. Races after the first count too. The
+ * whole trace must keep the rules 5 to 12. Returns, and stores in values[0] and values[1]:
+ *   RACEJUDGE_LISTED    k, 0               there are k close pairs: s of pair i is earlier[i] and t is
+ *                                          later[i], for each i below k
+ *   RACEJUDGE_REFUSED   number, position   both slices are unchanged
+ * Row 20 comes last: `earlier` or `later` has fewer than k cells. RACEJUDGE_MAX_PAIRS(n) cells suffice
+ * for n events. The two may differ in length; the cells past the k pairs are unchanged. Where k is 0
+ * two accesses may still race that are farther apart: whether any do, racejudge_judge says. */
+uint64_t racejudge_pairs(const uint8_t *kinds, size_t kinds_len, const uint16_t *tasks,
+                         size_t tasks_len, const uint16_t *operands, size_t operands_len,
+                         uint16_t *workspace, size_t workspace_len, uint16_t *earlier,
+                         size_t earlier_len, uint16_t *later, size_t later_len, uint64_t values[2]);
 
 /* Does event p reach event q: is p = q, or does a chain of arcs lead from p to q? The whole trace must
  * keep the rules 5 to 12; races do not matter. Returns, and stores in values[0] and values[1]:

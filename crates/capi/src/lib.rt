@@ -1,5 +1,5 @@
 // The C interface: the calls under their names in C, for C and Rust programs to link. Each slice is a pointer and a length there. A call returns a code and stores
-// two values, the judge three (`told`); `include/racejudge.h` has the prototypes. The functions that take records are walked by hand: a straight line of calls, and one loop.
+// two values, the judge three (`told`, `told_texts`); `include/racejudge.h` has the prototypes. The functions that take records are walked by hand: a straight line of calls, and one loop.
 ghost use mathlib.Core.Path.{_≡_};
 ghost use Prim.Native.Nat.{_≤_};
 ghost use lib.ListN.{length};
@@ -9,11 +9,14 @@ ghost use Rattle.trace.specs.Slices.{slices};
 ghost use Rattle.trace.specs.Demands.{JudgeDemand1, JudgeDemand2, JudgeDemand3, JudgeLinks};
 ghost use Rattle.convert.specs.Conversion.{convertOutcome};
 ghost use Rattle.convert.specs.Demands.{ConvertDemand1, ConvertSets, SameVerdicts};
+ghost use Rattle.pairs.specs.Pairs as pairs;
+ghost use Rattle.pairs.specs.Demands.{PairsDemand1, PairsCallDemand};
 ghost use Rattle.plan.specs.Decided.{DecidedBy, TracesPlan};
 ghost use Rattle.plan.specs.Tracing.{planned};
 ghost use Rattle.told.specs.Codes.{heard, heardLinks, judgeCall, judgeSeen, orderingCall, orderingSeen};
 ghost use Rattle.told.specs.Codes.{heardConversion, convertCall, convertSeen};
-ghost use Rattle.told.specs.Codes.{heardTrace, translationCall, translateCall, translateSeen, TranslateTells};
+ghost use Rattle.told.specs.Codes.{heardCount, pairsCall, pairsSeen};
+ghost use Rattle.told_texts.specs.Codes.{heardTrace, translationCall, translateCall, translateSeen, TranslateTells};
 ghost use Rattle.cards.specs.Cards.{withCards, cardsOutcome, cardsCall, cardsSeen};
 ghost use Rattle.cards.specs.Demands.{CardsHeld, CardsDemand1, CardsDemand2};
 ghost use Rattle.cards.specs.Tally.{cardIn, Tables};
@@ -82,6 +85,30 @@ pub extern "C" fn racejudge_convert(
     told::convert(kinds, tasks, operands, ws, values)
 }
 
+// Every close pair.
+#[no_mangle]
+pub extern "C" fn racejudge_pairs(
+    kinds: &[u8],
+    tasks: &[u16],
+    operands: &[u16],
+    ws: &mut [u16],
+    earlier: &mut [u16],
+    later: &mut [u16],
+    values: &mut [u64; 2],
+) -> u64
+    ensures outcome { λ r. ⌜ pairsSeen r (now (values .exit)) (now (earlier .exit)) (now (later .exit)) (now (ws .exit))
+        ≡ pairsCall (pairs.pairsOutcome (now (kinds .entry)) (now (tasks .entry)) (now (operands .entry)) (now (ws .entry))
+        (pairs.slices (now (earlier .entry)) (now (later .entry)))) ⌝ }
+    ensures demand1 { λ r. ⌜ PairsDemand1 (now (kinds .entry)) (now (tasks .entry)) (now (operands .entry)) (now (ws .entry))
+        (pairs.slices (now (earlier .entry)) (now (later .entry))) (heardCount r (now (values .exit)))
+        (pairs.slices (now (earlier .exit)) (now (later .exit))) (now (ws .exit)) ⌝ }
+    ensures pairs { λ r. ⌜ PairsCallDemand (now (kinds .entry)) (now (tasks .entry)) (now (operands .entry)) (now (ws .entry))
+        (pairs.slices (now (earlier .entry)) (now (later .entry))) (heardCount r (now (values .exit)))
+        (pairs.slices (now (earlier .exit)) (now (later .exit))) ⌝ }
+{
+    told::pairs(kinds, tasks, operands, ws, earlier, later, values)
+}
+
 // Text to a trace.
 #[no_mangle]
 pub extern "C" fn racejudge_translate(
@@ -96,7 +123,7 @@ pub extern "C" fn racejudge_translate(
     ensures form { λ r. ⌜ TranslateTells (now (text .entry)) (slices (now (kinds .entry)) (now (tasks .entry)) (now (operands .entry)))
         (translateSeen r (now (values .exit)) (slices (now (kinds .exit)) (now (tasks .exit)) (now (operands .exit)))) ⌝ }
 {
-    told::translate(text, kinds, tasks, operands, values)
+    told_texts::translate(text, kinds, tasks, operands, values)
 }
 
 // A plan to a trace.
@@ -115,7 +142,7 @@ pub extern "C" fn racejudge_plan(
     ensures trace { λ r. ⌜ TracesPlan (now (text .entry))
         (heardTrace r (now (values .exit)) (slices (now (kinds .exit)) (now (tasks .exit)) (now (operands .exit)))) ⌝ }
 {
-    told::plan(text, kinds, tasks, operands, values)
+    told_texts::plan(text, kinds, tasks, operands, values)
 }
 
 // Stores the first k cards.

@@ -12,7 +12,7 @@ use Rattle.trace.specs.Joins.{longestAfter}
 use Rattle.trace.specs.Outcome.{Reply, says, refused, Verdict, clean, race, lookedAt, linksBeside, firstOrder, secondOrder}
 use Rattle.trace.specs.Race.{Race}
 use Rattle.trace.specs.Demands.{KeepsRules, NoRaceBefore}
-use Rattle.trace.proofs.Lines.{graph-kept, located}
+use Rattle.trace.proofs.Lines.{graph-kept}
 use Rattle.trace.proofs.Sizes.{Sized}
 use Rattle.trace.proofs.Demand2.{demand-2, judgement-clean}
 use Rattle.trace.proofs.Numbers.{Numbers, numbers-agree}
@@ -26,8 +26,8 @@ use Rattle.chains.proofs.Building.{kept-earlier, bounded}
 use Rattle.cells.specs.Cells.{Rest, SameFrom, NUMBER, numberIn}
 use Rattle.segments.specs.Segments.{segment}
 use Rattle.ranks.specs.Lists.{NEXT}
-use Rattle.ranks.specs.States.{Leading, kindsOnly, ownNumber, Spread, SegmentsIn, RankSays}
-use Rattle.scan.specs.Numbered.{Numbered, FirstRace}
+use Rattle.ranks.specs.States.{kindsOnly, ownNumber, Spread, SegmentsIn, RankSays}
+use Rattle.scan.specs.Numbered.{FirstRace}
 use Rattle.scan.specs.Tables.{TABLES}
 use Rattle.scan.proofs.Racing.{no-race-before, race-at}
 use Rattle.report.specs.Reports.{Partnered, ReportedIn, Reported}
@@ -44,19 +44,6 @@ module _ {kinds tasks operands entry ordered : List ℕ} {events number : ℕ} (
 
   graph-is : events ≡ graphEvents haltOperand tr n
   graph-is = ranked .rules .graph
-
-  -- What `scan` asks.
-  pub scan-numbered : {leading : ℕ} → (leading ≤ events) × Leading kinds leading → Numbered kinds operands ordered leading events
-  unfolding traceOf
-  scan-numbered lead =
-      let kept = graph-kept haltOperand tr n in
-      record {
-        of-operands = omega (arith, ranked .segments-in .within, lent .of-operands);
-        segments-in = ranked .segments-in;
-        locations = rw graph-is (located haltOperand tr (graphEvents haltOperand tr n) (kept .0) (kept .1));
-        within = lead .0;
-        leading = lead .1;
-      }
 
   module _ {scanned : List ℕ} {t : ℕ} (found : FirstRace kinds operands (ownNumber kinds ordered) events t) (kept : SameFrom TABLES ordered scanned) where
     none-before : NoRaceBefore tr events t

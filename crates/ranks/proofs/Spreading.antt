@@ -7,11 +7,12 @@ use mathlib.Core.Logic.{inl}
 use native.Mathlib.Omega.{arith}
 use lib.ListN.{length, getD, set}
 use Rattle.trace.specs.Trace.{isAccess, WORKSPACE-CELLS}
-use Rattle.segments.specs.Segments.{moves}
+use Rattle.segments.specs.Segments.{moves, segment}
+use Rattle.segments.proofs.SegmentFacts.{segment-old}
 use Rattle.cells.specs.Cells.{Filled, NUMBER}
 use Rattle.cells.proofs.Filling.{filled-none, filled-more}
 use Rattle.ranks.specs.Lists.{NEXT, SEGMENTS, ownIn}
-use Rattle.ranks.specs.States.{kindsOnly, ownNumber, Spread}
+use Rattle.ranks.specs.States.{kindsOnly, ownNumber, Spread, SegmentsIn}
 use Rattle.ranks.proofs.Counting.{Counting, count-begin, count-turn, own-few, own-number}
 
 -- Before each turn the numbers of the events below p are written.
@@ -40,3 +41,21 @@ module _ {kinds : List ℕ} {events : ℕ} {entry c : List ℕ} {current p : ℕ
 pub spread-finish : {kinds : List ℕ} {events : ℕ} {entry c : List ℕ} {current p : ℕ} → Spreading kinds events entry c current p → events ≤ p →
     Spread kinds events entry c
 spread-finish {events = events} {p = p} s h = let w = s .counting .within in let e : p ≡ events = omega arith in rw (← e) (s .filled)
+
+-- The numbers of the segments stand as they did.
+pub spread-own :
+    {kinds : List ℕ} {events : ℕ} {entry exit : List ℕ} → SegmentsIn kinds events entry → Spread kinds events entry exit → (p : ℕ) → p < events
+    → ownNumber kinds exit p ≡ ownNumber kinds entry p
+spread-own {kinds} {events} ready spread p h =
+    spread .same (NEXT + segment (kindsOnly kinds) p) (inl (omega (arith, ready .few, segment-old (kindsOnly kinds) events p h)))
+
+pub spread-segments :
+    {kinds : List ℕ} {events : ℕ} {entry exit : List ℕ} → SegmentsIn kinds events entry → Spread kinds events entry exit → SegmentsIn kinds events exit
+spread-segments ready spread =
+    record {
+      within = ready .within;
+      named = ready .named;
+      few = ready .few;
+      room = omega (arith, ready .room, spread .long);
+      zero = spread .same (NEXT + 0) (inl (omega arith)) ∙ ready .zero;
+    }

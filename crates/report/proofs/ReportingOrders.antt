@@ -9,10 +9,12 @@ use native.Mathlib.Numerals.{add-one, add-two}
 use lib.ListN.{length, set, take, drop, length-append}
 use lib.Seq.{sets, take-at}
 use borrow.Author.Tests.{eq-eqb, ne-eqb, lt-ltb, le-ltb}
+use Rattle.trace.specs.Orders.{chosen}
 use Rattle.trace.specs.Outcome.{other?, schedule}
 use Rattle.trace.proofs.WitnessOrders.{schedule-length}
-use Rattle.report.specs.Reports.{reachIn, notReachIn, chosen, inDIn, ofD, others, orderIn, Parted, Arranged}
-use Rattle.report.proofs.ReportingStores.{sets-append, drop-sets, sets-front, parts-chosen}
+use Rattle.report.specs.Reports.{reachIn, notReachIn, inDIn, ofD, others, orderIn, Parted, Arranged}
+use Rattle.trace.proofs.Lists.{sets-append, drop-sets, sets-front}
+use Rattle.report.proofs.ReportingStores.{parts-chosen}
 
 -- Two stores side by side, after a list.
 set-pair : (xs ys : List ℕ) (a b x y : ℕ) → set (set (xs ++ (a ∷ b ∷ ys)) (length xs) x) (suc (length xs)) y ≡ xs ++ (x ∷ y ∷ ys)

@@ -1,37 +1,18 @@
--- Lists that are stored cell after cell, and the positions that pass a test, which are stored so. Nothing here is of numbers or of traces. Assumes nothing.
-use Prim.Native.Nat.{ℕ, zero, suc, _+_, _-_, _<_, _≤_}
+-- The positions that pass a test, stored cell after cell, and in two stretches. Nothing here is of numbers or of traces. Assumes nothing.
+use Prim.Native.Nat.{ℕ, suc, _+_, _-_, _<_, _≤_}
 use mathlib.Core.Path.{_≡_, refl, sym, ap, ap₂, _∙_}
 use mathlib.Core.Bool.{Bool, true, false}
-use mathlib.Core.List.{List, [], _∷_, _++_, append-nil}
+use mathlib.Core.List.{List, [], _∷_, _++_}
 use native.Mathlib.Omega.{arith}
 use native.Mathlib.Numerals.{add-one}
 use native.Mathlib.Nat.{add-zero, zero-add}
-use lib.ListN.{length, getD, set, take, drop, length-set, length-append}
-use lib.Seq.{sets, sets-eq, take-suc, drop-set-lt, length-take-le}
-use Rattle.trace.specs.Orders.{countUp, positions, select}
+use lib.ListN.{length, getD, set, take, length-set, length-append}
+use lib.Seq.{sets, take-suc, length-take-le}
+use Rattle.trace.specs.Orders.{countUp, positions, select, chosen}
 use Rattle.trace.specs.Outcome.{other?, schedule}
-use Rattle.trace.proofs.Lists.{select-append, countUp-snoc, select-positions-failed}
-use Rattle.report.specs.Reports.{chosen, Parted}
-
--- ---- lists that are stored
-
--- One list after another.
-pub sets-append : (xs ys l : List ℕ) (i : ℕ) → sets l i (xs ++ ys) ≡ sets (sets l i xs) (i + length xs) ys
-sets-append [] ys l i = rw add-zero
-sets-append (x ∷ xs) ys l i =
-    let e : suc i + length xs ≡ i + suc (length xs) = omega arith in
-    sets-append xs ys (set l i x) (suc i) ∙ ap (λ (z : ℕ). sets (sets (set l i x) (suc i) xs) z ys) e
-
--- Cells past it are as they were.
-pub drop-sets : (vs l : List ℕ) (i n : ℕ) → i + length vs ≤ n → drop n (sets l i vs) ≡ drop n l
-drop-sets [] l i n h = refl
-drop-sets (x ∷ vs) l i n h = drop-sets vs (set l i x) (suc i) n (omega arith) ∙ drop-set-lt n l i x (omega arith)
-
--- From cell 0 on.
-pub sets-front : (vs l : List ℕ) (n : ℕ) → length vs ≡ n → n ≤ length l → sets l 0 vs ≡ vs ++ drop n l
-sets-front vs l n long room =
-    let e : 0 + length vs ≡ n = omega arith in
-    sets-eq vs l 0 (omega arith) ∙ ap (λ (k : ℕ). vs ++ drop k l) e
+use Rattle.trace.proofs.Lists.{select-append, countUp-append, select-countUp-same, select-positions-failed}
+use Rattle.trace.proofs.Lists.{chosen-none, chosen-passed, chosen-failed, sets-append}
+use Rattle.report.specs.Reports.{Parted}
 
 -- One cell more is copied.
 pub copied-more :
@@ -43,23 +24,6 @@ copied-more from to out at i h done =
 
 -- ---- positions that pass a test
 
-module _ (test : ℕ → Bool) (from p : ℕ) (low : from ≤ p) where
-  -- Position p is added where it passes, else not.
-  chosen-step : chosen test from (p + 1) ≡ chosen test from p ++ select test (p ∷ [])
-  unfolding chosen
-  chosen-step =
-      let e : p + 1 - from ≡ suc (p - from) = omega arith in
-      let f : from + (p - from) ≡ p = omega arith in
-      ap (λ (m : ℕ). select test (countUp from m)) e
-      ∙ (ap (select test) (countUp-snoc from (p - from) ∙ ap (λ (q : ℕ). countUp from (p - from) ++ (q ∷ [])) f)
-      ∙ select-append test (countUp from (p - from)) (p ∷ []))
-
-  chosen-passed : test p ≡ true → chosen test from (p + 1) ≡ chosen test from p ++ (p ∷ [])
-  chosen-passed e = chosen-step ∙ rw e
-
-  chosen-failed : test p ≡ false → chosen test from (p + 1) ≡ chosen test from p
-  chosen-failed e = chosen-step ∙ rw e (append-nil (chosen test from p))
-
 -- From cell `at` on, l has got the positions from `from` up to p that pass: it is m then, and `next` is past them.
 pub record Stored (test : ℕ → Bool) (from at : ℕ) (l : List ℕ) (p next : ℕ) (m : List ℕ) : Type 0 where
   pub place : next ≡ at + length (chosen test from p)
@@ -68,8 +32,7 @@ pub record Stored (test : ℕ → Bool) (from at : ℕ) (l : List ℕ) (p next :
 
 module _ {test : ℕ → Bool} {from at : ℕ} {l : List ℕ} where
   pub stored-none : Stored test from at l from at l
-  unfolding chosen
-  stored-none = let none : from - from ≡ 0 = omega arith in record { place = rw (none, add-zero at); held = rw none; long = refl }
+  stored-none = let none = chosen-none test from in record { place = rw (none, add-zero at); held = rw none; long = refl }
 
   module _ {p next : ℕ} {m : List ℕ} (low : from ≤ p) (done : Stored test from at l p next m) where
     -- A position that passes is stored,
@@ -100,27 +63,11 @@ stored-parted end sum one two =
 
 -- ---- positions in two stretches
 
-countUp-append : (k m n : ℕ) → countUp k (m + n) ≡ countUp k m ++ countUp (k + m) n
-countUp-append k zero n = rw (zero-add n, add-zero k)
-countUp-append k (suc m) n =
-    let e : suc k + m ≡ k + suc m = omega arith in
-    let f : suc m + n ≡ suc (m + n) = omega arith in
-    ap (countUp k) f
-    ∙ ap (λ (l : List ℕ). k ∷ l) (countUp-append (suc k) m n ∙ ap (λ (q : ℕ). countUp (suc k) m ++ countUp q n) e)
-
--- Two tests that agree on some positions select the same of them.
-select-same : (f g : ℕ → Bool) (k m : ℕ) → ((p : ℕ) → k ≤ p → p < k + m → f p ≡ g p) → select f (countUp k m) ≡ select g (countUp k m)
-select-same f g k zero h = refl
-select-same f g k (suc m) h =
-    let rest = select-same f g (suc k) m (λ p low high. h p (omega arith) (omega arith)) in
-    let here : f k ≡ g k = h k (omega arith) (omega arith) in
-    rw (here, rest)
-
 -- Two tests that agree up to t have one schedule.
 pub schedule-same : (f g : ℕ → Bool) (s t a b : ℕ) → ((p : ℕ) → p < suc t → f p ≡ g p) → schedule f s t a b ≡ schedule g s t a b
 schedule-same f g s t a b h =
-    ap₂ (λ (x y : List ℕ). x ++ (a ∷ b ∷ y)) (select-same f g 0 (suc t) (λ p low high. h p (omega arith)))
-    (select-same (other? f s t) (other? g s t) 0 (suc t) (λ p low high. let here = h p (omega arith) in rw here))
+    ap₂ (λ (x y : List ℕ). x ++ (a ∷ b ∷ y)) (select-countUp-same f g 0 (suc t) (λ p low high. h p (omega arith)))
+    (select-countUp-same (other? f s t) (other? g s t) 0 (suc t) (λ p low high. let here = h p (omega arith) in rw here))
 
 module _ (s t : ℕ) (before : s < t) where
   -- The positions up to t that pass a test which s and t fail: those before s, then those between s and t.
@@ -141,6 +88,6 @@ module _ (s t : ℕ) (before : s < t) where
   unfolding chosen
   parts-chosen f low high at-s at-t below above =
       rw (add-one s)
-      (ap₂ (λ (x y : List ℕ). x ++ y) (select-same low f 0 (s - 0) (λ p l h. below p (omega arith)))
-      (select-same high f (suc s) (t - suc s) (λ p l h. above p (omega arith) (omega arith)))
+      (ap₂ (λ (x y : List ℕ). x ++ y) (select-countUp-same low f 0 (s - 0) (λ p l h. below p (omega arith)))
+      (select-countUp-same high f (suc s) (t - suc s) (λ p l h. above p (omega arith) (omega arith)))
       ∙ sym (chosen-parts f at-s at-t))

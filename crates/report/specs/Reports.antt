@@ -1,6 +1,6 @@
 -- What the report of a race at t is: by the kinds, the operands and the events' numbers alone, and in the documents' terms. In every definition c is the
 -- workspace's cells. Assumes nothing.
-use Prim.Native.Nat.{ℕ, suc, _+_, _-_, _<_}
+use Prim.Native.Nat.{ℕ, suc, _+_, _<_}
 use mathlib.Core.Path.{_≡_}
 use mathlib.Core.Bool.{Bool, true, false, not, _&&_, _||_}
 use mathlib.Core.List.{List, _++_}
@@ -11,7 +11,7 @@ use Rattle.trace.specs.Trace.{Trace, isAccess}
 use Rattle.trace.specs.Graph.{graphEvents}
 use Rattle.trace.specs.Line.{haltOperand}
 use Rattle.trace.specs.Race.{conflicting}
-use Rattle.trace.specs.Orders.{countUp, positions, select}
+use Rattle.trace.specs.Orders.{positions, select}
 use Rattle.trace.specs.Outcome.{inD?, other?, schedule}
 use Rattle.trace.specs.Demands.{IsRace}
 use Rattle.cells.specs.Cells.{numberIn}
@@ -49,10 +49,6 @@ pub record FirstPartner (kinds operands c : List ℕ) (t s : ℕ) : Type 0 where
   pub none-before : (p : ℕ) → p < s → partnerIn kinds operands c t p ≡ false
 
 -- ---- the orders
-
--- The positions from `from` up to `to` that pass a test, in position order.
-unfoldable pub chosen : (ℕ → Bool) → ℕ → ℕ → List ℕ
-chosen test from to = select test (countUp from (to - from))
 
 -- By the numbers, event p is of D: it stands before s and reaches s, or it stands between s and t and reaches t.
 unfoldable pub inDIn : List ℕ → ℕ → ℕ → ℕ → Bool

@@ -6,9 +6,10 @@ ghost use Prim.Native.Nat.{_+_, _-_, _≤_, _<_};
 ghost use lib.ListN.{length, getD, take};
 ghost use lib.Seq.{sets};
 ghost use Rattle.trace.specs.Trace.{isAccess, MAX-EVENTS};
+ghost use Rattle.trace.specs.Orders.{chosen};
 ghost use Rattle.cells.specs.Cells.{NUMBER};
 ghost use Rattle.report.specs.Reports.{reachIn, kindsConflict, partnerIn, Partnered, FirstPartner};
-ghost use Rattle.report.specs.Reports.{notReachIn, chosen, ofD, others, orderIn, Parted, Arranged, ReportedIn};
+ghost use Rattle.report.specs.Reports.{notReachIn, ofD, others, orderIn, Parted, Arranged, ReportedIn};
 
 // Whether an event of this kind is an access and conflicts with one of the kind `other`, where both have one location.
 fn conflicts(kind: u8, other: u8) -> bool

@@ -1,7 +1,7 @@
 -- The tables hold the largest numbers: what one event changes in them, and that they tell whether an access races. Assumes nothing.
 use Prim.Native.Nat.{ℕ, suc, max, _+_, _-_, _*_, _<_, _≤_}
 use mathlib.Core.Path.{_≡_, refl, sym, _∙_}
-use mathlib.Core.Bool.{true, false, true≢false}
+use mathlib.Core.Bool.{Bool, true, false, true≢false}
 use mathlib.Core.List.{List}
 use mathlib.Core.Logic.{_⊎_, inl, inr, _≢_, _↔_}
 use native.Mathlib.Omega.{arith}
@@ -12,8 +12,10 @@ use Rattle.trace.specs.Race.{conflicting}
 use Rattle.trace.proofs.Tests.{by-test, either, same-or-not, lt-or-le, last-or-below}
 use Rattle.trace.proofs.EventKinds.{test-access}
 use Rattle.trace.proofs.Conflicts.{test-conflicting}
+use Rattle.cells.specs.Cells.{SameFrom}
 use Rattle.scan.specs.Numbered.{Against, RaceByNumber}
-use Rattle.scan.specs.Tables.{FOR-READS, FOR-SUMS, TABLES, firstHeld, secondHeld, heldAgainst, Testable, Calm, raised, storedIn, keptIn, TestSays}
+use Rattle.scan.specs.Tables.{FOR-READS, FOR-SUMS, TABLES, Largest, Tables, firstHeld, secondHeld, heldAgainst, Testable, Calm, raised}
+use Rattle.scan.specs.Tables.{storedIn, keptIn, TestSays, raisedIn, racedIn, RaceSays}
 
 -- ---- what an access is held against, kind by kind
 
@@ -157,6 +159,20 @@ module _ (c : List ℕ) (k l x : ℕ) where
         rw e (omega (arith, held-write c l, calm l (ready .0 .location)), (rw (is, e) at stored) ∙ sym (kept-write c l x)))
         (λ e. absurd (ready .1 e)))
 
+-- An access that is kept though it races.
+module _ (c d : List ℕ) (k l x : ℕ) where
+  pub kept-quiet : (r : Bool) → r ≡ true → TestSays c d k l x r → RaceSays c d k l x false
+  kept-quiet true e says = says
+  kept-quiet false e says = absurd (true≢false (sym e))
+
+  pub kept-racing :
+      (r : Bool) (first second : ℕ) (one two : List ℕ) → r ≡ false → TestSays c d k l x r → (second ≡ secondHeld k) × (second ≤ FOR-SUMS)
+      → one ≡ raisedIn d (FOR-SUMS - second) l x → (first ≡ firstHeld k) × (first ≤ FOR-SUMS) → two ≡ raisedIn one (FOR-SUMS - first) l x
+      → RaceSays c two k l x true
+  unfolding racedIn
+  kept-racing true first second one two e says s stored f stored′ = absurd (true≢false e)
+  kept-racing false first second one two e says s stored f stored′ = let held = s .0 in let held′ = f .0 in (says .0, cc (says .1, held, held′, stored, stored′))
+
 -- The cell v of those that conflict with kind k becomes v′ where an access of kind j with number x is kept.
 abbrev Raises : ℕ → ℕ → ℕ → ℕ → ℕ → Type 0
 Raises j k x v v′ = (conflicting j k ≡ true → v′ ≡ max v x) × (conflicting j k ≡ false → v′ ≡ v)
@@ -184,6 +200,103 @@ module _ (c : List ℕ) (o x j : ℕ) (access : isAccess j ≡ true) (room : TAB
       either b (λ e. rw e (raises WRITE SUM x _ _ refl (write-kept-too c o x room location)))
       (λ e. rw e (leaves SUM SUM x _ _ refl (sum-leaves c o x room location))))
 
+-- An access of kind j to location o with number x is kept: in each table its location's cell rises where it conflicts with those that the table is for, and
+-- no other cell has changed.
+pub record Keeps (c d : List ℕ) (j o x : ℕ) : Type 0 where
+  pub long : length d ≡ length c
+  pub for-reads : Raises j READ x (getD c (FOR-READS + o) 0) (getD d (FOR-READS + o) 0)
+  pub for-sums : Raises j SUM x (getD c (FOR-SUMS + o) 0) (getD d (FOR-SUMS + o) 0)
+  pub away : (i : ℕ) → i ≢ FOR-READS + o → i ≢ FOR-SUMS + o → getD d i 0 ≡ getD c i 0
+
+-- One that passed is,
+pub keeps-passed : (c : List ℕ) (j o x : ℕ) → Testable c j o → heldAgainst c j o ≤ x → Keeps c (keptIn c j o x) j o x
+keeps-passed c j o x t quiet =
+    record {
+      long = kept-long c o x j;
+      for-reads = raises-for-reads c o x j (t .access) (t .room) (t .location) quiet;
+      for-sums = raises-for-sums c o x j (t .access) (t .room) (t .location) quiet;
+      away = kept-other c o x j (t .access);
+    }
+
+-- and one that raced.
+module _ (c : List ℕ) (o x : ℕ) where
+  raise-long : (table : ℕ) → length (raisedIn c table o x) ≡ length c
+  unfolding raisedIn
+  raise-long table = simp length-set
+
+  raise-own : (table : ℕ) → table + o < length c → getD (raisedIn c table o x) (table + o) 0 ≡ raised c table o x
+  unfolding raisedIn
+  raise-own table room = getD-set-same c (table + o) (raised c table o x) 0 room
+
+  raise-away : (table i : ℕ) → i ≢ table + o → getD (raisedIn c table o x) i 0 ≡ getD c i 0
+  unfolding raisedIn
+  raise-away table i d = getD-set-other c (table + o) i (raised c table o x) 0 d
+
+module _ (c : List ℕ) (o x : ℕ) (room : TABLES ≤ length c) (location : o < LOCATIONS) where
+  -- In two tables, one after the other.
+  abbrev both : ℕ → ℕ → List ℕ
+  both a b = raisedIn (raisedIn c a o x) b o x
+
+  both-long : (a b : ℕ) → length (both a b) ≡ length c
+  both-long a b = raise-long (raisedIn c a o x) o x b ∙ raise-long c o x a
+
+  both-second : (a b : ℕ) → b ≤ FOR-SUMS → getD (both a b) (b + o) 0 ≡ max (getD (raisedIn c a o x) (b + o) 0) x
+  both-second a b low = raise-own (raisedIn c a o x) o x b (omega (arith, raise-long c o x a))
+
+  both-twice : (a : ℕ) → a ≤ FOR-SUMS → getD (both a a) (a + o) 0 ≡ raised c a o x
+  both-twice a low = omega (arith, both-second a a low, raise-own c o x a (omega arith))
+
+  both-away : (a b i : ℕ) → i ≢ a + o → i ≢ b + o → getD (both a b) i 0 ≡ getD c i 0
+  both-away a b i d e = raise-away (raisedIn c a o x) o x b i e ∙ raise-away c o x a i d
+
+  raced-read : Keeps c (racedIn c READ o x) READ o x
+  unfolding racedIn conflicting
+  raced-read =
+      record {
+        long = both-long FOR-SUMS FOR-SUMS;
+        for-reads = leaves READ READ x _ _ refl (both-away FOR-SUMS FOR-SUMS (FOR-READS + o) (omega arith) (omega arith));
+        for-sums = raises READ SUM x _ _ refl (both-twice FOR-SUMS (omega arith));
+        away = λ i d e. both-away FOR-SUMS FOR-SUMS i e e;
+      }
+
+  raced-write : Keeps c (racedIn c WRITE o x) WRITE o x
+  unfolding racedIn conflicting
+  raced-write =
+      record {
+        long = both-long FOR-SUMS FOR-READS;
+        for-reads =
+            raises WRITE READ x _ _ refl
+            (omega (arith, both-second FOR-SUMS FOR-READS (omega arith), raise-away c o x FOR-SUMS (FOR-READS + o) (omega arith)));
+        for-sums =
+            raises WRITE SUM x _ _ refl
+            (raise-away (raisedIn c FOR-SUMS o x) o x FOR-READS (FOR-SUMS + o) (omega arith) ∙ raise-own c o x FOR-SUMS (omega arith));
+        away = λ i d e. both-away FOR-SUMS FOR-READS i e d;
+      }
+
+  raced-sum : Keeps c (racedIn c SUM o x) SUM o x
+  unfolding racedIn conflicting
+  raced-sum =
+      record {
+        long = both-long FOR-READS FOR-READS;
+        for-reads = raises SUM READ x _ _ refl (both-twice FOR-READS (omega arith));
+        for-sums = leaves SUM SUM x _ _ refl (both-away FOR-READS FOR-READS (FOR-SUMS + o) (omega arith) (omega arith));
+        away = λ i d e. both-away FOR-READS FOR-READS i d d;
+      }
+
+pub keeps-raced : (c : List ℕ) (j o x : ℕ) → Testable c j o → Keeps c (racedIn c j o x) j o x
+keeps-raced c j o x t =
+    either (test-access j .0 (t .access)) (λ e. rw e (raced-read c o x (t .room) (t .location)))
+    (λ b.
+    either b (λ e. rw e (raced-write c o x (t .room) (t .location))) (λ e. rw e (raced-sum c o x (t .room) (t .location))))
+
+-- Whatever the test says of it.
+pub keeps-tested : (c d : List ℕ) (j o x : ℕ) (r : Bool) → Testable c j o → RaceSays c d j o x r → Keeps c d j o x
+keeps-tested c d j o x true t says = rw (says .1) (keeps-raced c j o x t)
+keeps-tested c d j o x false t says = rw (says .1) (keeps-passed c j o x t (says .0))
+
+pub keeps-beyond : {c d : List ℕ} {j o x : ℕ} → o < LOCATIONS → Keeps c d j o x → SameFrom TABLES c d
+keeps-beyond low kept = record { long = kept .long; same = λ i h. kept .away i (λ q. omega arith) (λ q. omega arith) }
+
 -- Where there was no sum, FOR-READS stays below FOR-SUMS.
 pub calm-kept :
     (c : List ℕ) (o x j : ℕ) → isAccess j ≡ true → j ≢ SUM → TABLES ≤ length c → o < LOCATIONS → heldAgainst c j o ≤ x → Calm c → Calm (keptIn c j o x)
@@ -208,25 +321,15 @@ calm-kept c o x j access other room location quiet calm l low =
 -- ---- what the tables hold
 
 module _ (kinds operands : List ℕ) (number : ℕ → ℕ) where
-  -- v is the largest number of those of the first n events that an access of kind k to location l is held against, 0 where there is none: what is smaller
-  -- than v is smaller than the number of one of them.
-  abbrev Largest : ℕ → ℕ → ℕ → ℕ → Type 0
-  Largest k l n v = (x : ℕ) → (x < v) ↔ ((p : ℕ) × (p < n) × Against kinds operands k l p × (x < number p))
-
-  -- For each location.
-  pub record Tables (n : ℕ) (c : List ℕ) : Type 0 where
-    pub for-reads : (l : ℕ) → l < LOCATIONS → Largest READ l n (getD c (FOR-READS + l) 0)
-    pub for-sums : (l : ℕ) → l < LOCATIONS → Largest SUM l n (getD c (FOR-SUMS + l) 0)
-
   -- What an access of kind k to l is held against, one event later: nothing new,
-  largest-same : (k l n v : ℕ) → (Against kinds operands k l n → ⊥) → Largest k l n v → Largest k l (suc n) v
+  largest-same : (k l n v : ℕ) → (Against kinds operands k l n → ⊥) → Largest kinds operands number k l n v → Largest kinds operands number k l (suc n) v
   largest-same k l n v apart before x = (
     λ h. let w = before x .0 h in let i = w .1 in (w .0, omega arith, w .2, w .3),
     λ w. either (last-or-below (w .0) n (w .1)) (λ e. let a = w .2 in absurd (apart (rw e at a))) (λ h. before x .1 (w .0, h, w .2, w .3)),
   )
 
   -- or that event.
-  largest-raised : (k l n v : ℕ) → Against kinds operands k l n → Largest k l n v → Largest k l (suc n) (max v (number n))
+  largest-raised : (k l n v : ℕ) → Against kinds operands k l n → Largest kinds operands number k l n v → Largest kinds operands number k l (suc n) (max v (number n))
   largest-raised k l n v here before x = (
     λ h. either (lt-or-le x (number n))
         (λ own. (n, omega arith, here, own))
@@ -237,18 +340,26 @@ module _ (kinds operands : List ℕ) (number : ℕ → ℕ) where
   )
 
   -- Before the first event that has another number than 0 the tables hold 0.
-  pub tables-none : (n : ℕ) (c : List ℕ) → ((i : ℕ) → i < TABLES → getD c i 0 ≡ 0) → ((p : ℕ) → p < n → number p ≡ 0) → Tables n c
+  pub tables-none : (n : ℕ) (c : List ℕ) → ((i : ℕ) → i < TABLES → getD c i 0 ≡ 0) → ((p : ℕ) → p < n → number p ≡ 0) → Tables kinds operands number n c
   tables-none n c cleared zeros =
       record {
         for-reads = λ l low. none READ l (getD c (FOR-READS + l) 0) (cleared (FOR-READS + l) (omega arith));
         for-sums = λ l low. none SUM l (getD c (FOR-SUMS + l) 0) (cleared (FOR-SUMS + l) (omega arith));
       }
     where
-      none : (k l v : ℕ) → v ≡ 0 → Largest k l n v
+      none : (k l v : ℕ) → v ≡ 0 → Largest kinds operands number k l n v
       none k l v zero x = (λ h. absurd (omega arith), λ w. let h = w .3 in absurd (omega (arith, zeros (w .0) (w .1))))
 
+  -- Other cells do not matter.
+  pub tables-same : (n : ℕ) (c d : List ℕ) → ((i : ℕ) → i < TABLES → getD d i 0 ≡ getD c i 0) → Tables kinds operands number n c → Tables kinds operands number n d
+  tables-same n c d same before =
+      record {
+        for-reads = λ l low. rw (same (FOR-READS + l) (omega arith)) (before .for-reads l low);
+        for-sums = λ l low. rw (same (FOR-SUMS + l) (omega arith)) (before .for-sums l low);
+      }
+
   -- A fork, a join and a halt leave them.
-  pub tables-move : (n : ℕ) (c : List ℕ) → isAccess (getD kinds n 0) ≡ false → Tables n c → Tables (suc n) c
+  pub tables-move : (n : ℕ) (c : List ℕ) → isAccess (getD kinds n 0) ≡ false → Tables kinds operands number n c → Tables kinds operands number (suc n) c
   tables-move n c move before =
       record {
         for-reads = λ l low. largest-same READ l n _ (λ a. true≢false (sym (a .access) ∙ move)) (before .for-reads l low);
@@ -273,12 +384,12 @@ module _ (kinds operands : List ℕ) (number : ℕ → ℕ) where
       (λ e. inl (with READ (test-conflicting k READ .1 (inr (inr (e, refl)))))))
 
   -- So the tables tell the largest number that an access is held against.
-  held-largest : (n : ℕ) (c : List ℕ) → Tables n c → (k l : ℕ) → isAccess k ≡ true → l < LOCATIONS → Largest k l n (heldAgainst c k l)
+  held-largest : (n : ℕ) (c : List ℕ) → Tables kinds operands number n c → (k l : ℕ) → isAccess k ≡ true → l < LOCATIONS → Largest kinds operands number k l n (heldAgainst c k l)
   held-largest n c before k l access low =
       either (test-access k .0 access) (λ e. rw (e, held-read) (before .for-reads l low))
       (λ b. either b (λ e. rw (e, held-write) of-write) (λ e. rw (e, held-sum) (before .for-sums l low)))
     where
-      of-write : Largest WRITE l n (max (getD c (FOR-SUMS + l) 0) (getD c (FOR-READS + l) 0))
+      of-write : Largest kinds operands number WRITE l n (max (getD c (FOR-SUMS + l) 0) (getD c (FOR-READS + l) 0))
       of-write x = (
         λ h. either (lt-or-le x (getD c (FOR-READS + l) 0))
             (λ i. let w = before .for-reads l low x .0 i in (w .0, w .1, against-write (w .2), w .3))
@@ -289,7 +400,7 @@ module _ (kinds operands : List ℕ) (number : ℕ → ℕ) where
       )
 
   module _ (n : ℕ) (c : List ℕ) (room : TABLES ≤ length c) (access : isAccess (getD kinds n 0) ≡ true) (location : getD operands n 0 < LOCATIONS)
-      (before : Tables n c) where
+      (before : Tables kinds operands number n c) where
     abbrev j : ℕ
     j = getD kinds n 0
 
@@ -304,31 +415,28 @@ module _ (kinds operands : List ℕ) (number : ℕ → ℕ) where
           λ w. let r = w .1 in held .1 (w .0, r .before, r .against, r .smaller),
         )
 
-    -- and one that does not is kept.
-    module _ (quiet : heldAgainst c j o ≤ number n) where
-      abbrev kept : List ℕ
-      kept = keptIn c j o (number n)
+    -- and once it is kept, the tables hold the largest numbers of one event more.
+    pub tables-kept : (d : List ℕ) → Keeps c d j o (number n) → Tables kinds operands number (suc n) d
+    tables-kept d kept =
+        record {
+          for-reads = λ l low.
+              either (same-or-not l o)
+              (λ same. rw same (largest-kept READ _ _ (kept .for-reads) (before .for-reads o location)))
+              (λ other. largest-away READ l (FOR-READS + l) other (λ q. other (omega arith)) (omega arith) (before .for-reads l low));
+          for-sums = λ l low.
+              either (same-or-not l o)
+              (λ same. rw same (largest-kept SUM _ _ (kept .for-sums) (before .for-sums o location)))
+              (λ other. largest-away SUM l (FOR-SUMS + l) other (omega arith) (λ q. other (omega arith)) (before .for-sums l low));
+        }
+      where
+        largest-kept : (k v v′ : ℕ) → Raises j k (number n) v v′ → Largest kinds operands number k o n v → Largest kinds operands number k o (suc n) v′
+        largest-kept k v v′ changes was =
+            by-test (conflicting j k)
+            (λ yes.
+            rw (changes .0 yes) (largest-raised k o n v (record { access = access; one-location = refl; kinds-conflict = yes }) was))
+            (λ no. rw (changes .1 no) (largest-same k o n v (λ a. true≢false (sym (a .kinds-conflict) ∙ no)) was))
 
-      largest-kept : (k v v′ : ℕ) → Raises j k (number n) v v′ → Largest k o n v → Largest k o (suc n) v′
-      largest-kept k v v′ changes was =
-          by-test (conflicting j k)
-          (λ yes.
-          rw (changes .0 yes) (largest-raised k o n v (record { access = access; one-location = refl; kinds-conflict = yes }) was))
-          (λ no. rw (changes .1 no) (largest-same k o n v (λ a. true≢false (sym (a .kinds-conflict) ∙ no)) was))
-
-      largest-away : (k l i : ℕ) → l ≢ o → i ≢ FOR-READS + o → i ≢ FOR-SUMS + o → Largest k l n (getD c i 0) → Largest k l (suc n) (getD kept i 0)
-      largest-away k l i other d e was =
-          rw (kept-other c o (number n) j access i d e) (largest-same k l n _ (λ a. other (sym (a .one-location))) was)
-
-      pub tables-kept : Tables (suc n) kept
-      tables-kept =
-          record {
-            for-reads = λ l low.
-                either (same-or-not l o)
-                (λ same. rw same (largest-kept READ _ _ (raises-for-reads c o (number n) j access room location quiet) (before .for-reads o location)))
-                (λ other. largest-away READ l (FOR-READS + l) other (λ q. other (omega arith)) (omega arith) (before .for-reads l low));
-            for-sums = λ l low.
-                either (same-or-not l o)
-                (λ same. rw same (largest-kept SUM _ _ (raises-for-sums c o (number n) j access room location quiet) (before .for-sums o location)))
-                (λ other. largest-away SUM l (FOR-SUMS + l) other (omega arith) (λ q. other (omega arith)) (before .for-sums l low));
-          }
+        largest-away :
+            (k l i : ℕ) → l ≢ o → i ≢ FOR-READS + o → i ≢ FOR-SUMS + o → Largest kinds operands number k l n (getD c i 0)
+            → Largest kinds operands number k l (suc n) (getD d i 0)
+        largest-away k l i other e f was = rw (kept .away i e f) (largest-same k l n _ (λ a. other (sym (a .one-location))) was)

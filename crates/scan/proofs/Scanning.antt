@@ -11,14 +11,42 @@ use Rattle.trace.specs.Trace.{FORK, isKind, isAccess, WORKSPACE-CELLS}
 use Rattle.trace.proofs.Tests.{either, last-or-below}
 use Rattle.cells.specs.Cells.{zeroed, SameFrom}
 use Rattle.cells.proofs.Zeroed.{zeroed-length, zeroed-below, zeroed-beyond}
+use Rattle.cells.proofs.Rests.{same-from-trans}
 use Rattle.segments.specs.Segments.{moves, segment}
 use Rattle.segments.proofs.SegmentFacts.{moves-rise}
 use Rattle.ranks.specs.Lists.{NEXT, SEGMENTS}
 use Rattle.ranks.specs.States.{kindsOnly, ownNumber}
 use Rattle.ranks.proofs.Ranking.{access-segment, moves-on, moves-more, leading-moves, leading-zero}
 use Rattle.scan.specs.Numbered.{Numbered, RaceByNumber, FirstRace}
-use Rattle.scan.specs.Tables.{FOR-READS, TABLES, heldAgainst, Testable, Calm, TestSays}
-use Rattle.scan.proofs.Largest.{kept-long, kept-other, calm-kept, Tables, tables-none, tables-move, tables-kept, race-by-table}
+use Rattle.scan.specs.Tables.{FOR-READS, TABLES, Tables, heldAgainst, Testable, Calm, TestSays}
+use Rattle.scan.proofs.Largest.{keeps-passed, keeps-beyond, calm-kept, tables-none, tables-move, tables-kept, race-by-table}
+
+-- Where the segments' cells are as they were, they hold the same numbers.
+pub numbers-same :
+    {base : ℕ} {c d : List ℕ} (kinds : List ℕ) → base ≤ NEXT → SameFrom base c d → (p : ℕ) → ownNumber kinds d p ≡ ownNumber kinds c p
+numbers-same kinds low same p = same .same (NEXT + segment (kindsOnly kinds) p) (omega arith)
+
+pub numbered-same :
+    {base : ℕ} {kinds operands c d : List ℕ} {from events : ℕ} → base ≤ NEXT → SameFrom base c d → Numbered kinds operands c from events
+    → Numbered kinds operands d from events
+numbered-same low same lent =
+    let ready = lent .segments-in in
+    let long = same .long in
+    let room = ready .room in
+    record {
+      of-operands = lent .of-operands;
+      segments-in =
+          record {
+            within = ready .within;
+            named = ready .named;
+            few = ready .few;
+            room = omega arith;
+            zero = same .same (NEXT + 0) (omega arith) ∙ ready .zero;
+          };
+      locations = lent .locations;
+      within = lent .within;
+      leading = lent .leading;
+    }
 
 -- Before each turn the tables hold the largest numbers of the first t events, and none of these races with an earlier one; `current` counts the moves among
 -- them, and `number` is that of the open segment. Kinds below `quick`, if there are any, have one table to ask. The cells were `start` where the loop began, and
@@ -34,9 +62,10 @@ pub record Scanning (kinds operands : List ℕ) (from events : ℕ) (start c : L
   pub calm : 0 < quick → Calm c
   pub none : (p q : ℕ) → q < t → RaceByNumber kinds operands (ownNumber kinds start) p q → ⊥
 
--- Event r is the first that races, by the numbers of `start`, and they still stand in `c`.
+-- Event r is the first that races, by the numbers of `start`, and they still stand in `c`, whose tables hold the largest ones of the events before r.
 abbrev Found : List ℕ → List ℕ → ℕ → List ℕ → List ℕ → ℕ → Type 0
-Found kinds operands events start c r = FirstRace kinds operands (ownNumber kinds start) events r × SameFrom TABLES start c
+Found kinds operands events start c r =
+    FirstRace kinds operands (ownNumber kinds start) events r × (SameFrom TABLES start c × Tables kinds operands (ownNumber kinds start) r c)
 
 module _ (kinds operands : List ℕ) (from events : ℕ) where
   -- It begins with cleared tables.
@@ -47,7 +76,7 @@ module _ (kinds operands : List ℕ) (from events : ℕ) where
         rw e (record { long = zeroed-length TABLES entry (omega arith); same = λ i h. zeroed-beyond TABLES entry i h })
 
     begun-numbers : (p : ℕ) → ownNumber kinds start p ≡ ownNumber kinds entry p
-    begun-numbers p = begun-beyond .same (NEXT + segment (kindsOnly kinds) p) (omega arith)
+    begun-numbers p = numbers-same kinds (omega arith) begun-beyond p
 
     cleared-cell : (i : ℕ) → i < TABLES → getD start i 0 ≡ 0
     cleared-cell i h = rw e (zeroed-below TABLES entry i h)
@@ -63,21 +92,7 @@ module _ (kinds operands : List ℕ) (from events : ℕ) where
           within = lent .within;
           counts = sym (leading-moves kinds from (lent .leading));
           opened = sym (begun-beyond .same (NEXT + 0) (omega arith) ∙ ready .zero);
-          numbered =
-              record {
-                of-operands = lent .of-operands;
-                segments-in =
-                    record {
-                      within = ready .within;
-                      named = ready .named;
-                      few = ready .few;
-                      room = omega arith;
-                      zero = begun-beyond .same (NEXT + 0) (omega arith) ∙ ready .zero;
-                    };
-                locations = lent .locations;
-                within = lent .within;
-                leading = lent .leading;
-              };
+          numbered = numbered-same (omega arith) begun-beyond lent;
           beyond = record { long = refl; same = λ i h. refl };
           tables = tables-none kinds operands (ownNumber kinds start) from start cleared-cell zeros;
           limit = omega arith;
@@ -87,14 +102,18 @@ module _ (kinds operands : List ℕ) (from events : ℕ) where
 
     -- What is found is said of the cells at entry.
     pub scan-answer : (c : List ℕ) (r : ℕ) → Found kinds operands events start c r → Found kinds operands events entry c r
-    scan-answer c r f = (
-      subst (λ (number : ℕ → ℕ). FirstRace kinds operands number events r) (fun-ext begun-numbers) (f .0),
-      record { long = f .1 .long ∙ begun-beyond .long; same = λ i h. f .1 .same i h ∙ begun-beyond .same i h },
-    )
+    scan-answer c r f =
+        let beyond = f .1 .0 in (
+          subst (λ (number : ℕ → ℕ). FirstRace kinds operands number events r) (fun-ext begun-numbers) (f .0),
+          (
+            same-from-trans begun-beyond beyond,
+            subst (λ (number : ℕ → ℕ). Tables kinds operands number r c) (fun-ext begun-numbers) (f .1 .1),
+          ),
+        )
 
   module _ {start c : List ℕ} {current number quick t : ℕ} (s : Scanning kinds operands from events start c current number quick t) where
     pub scan-end : events ≤ t → Found kinds operands events start c t
-    scan-end h = (record { within = s .within; none-before = s .none; race = λ i. absurd (omega arith) }, s .beyond)
+    scan-end h = (record { within = s .within; none-before = s .none; race = λ i. absurd (omega arith) }, (s .beyond, s .tables))
 
     -- The open segment has a cell.
     pub scan-few : current < SEGMENTS
@@ -169,7 +188,7 @@ module _ (kinds operands : List ℕ) (from events : ℕ) where
           kept-with : (quick′ : ℕ) → quick′ ≤ FORK → (0 < quick′ → Calm d) → Scanning kinds operands from events start d current number quick′ (t + 1)
           kept-with quick′ limit calm =
               let f = scan-testable in
-              let quiet = says .0 in
+              let kept = keeps-passed c k l number f (says .0) in
               let o = own in
               rw (add-one t)
               (record {
@@ -177,13 +196,8 @@ module _ (kinds operands : List ℕ) (from events : ℕ) where
                 counts = s .counts ∙ sym (moves-on kinds t access);
                 opened = s .opened;
                 numbered = s .numbered;
-                beyond =
-                    rw (says .1)
-                    (record {
-                      long = kept-long c l number k ∙ s .beyond .long;
-                      same = λ i h. kept-other c l number k access i (λ q. omega arith) (λ q. omega arith) ∙ s .beyond .same i h;
-                    });
-                tables = rw (says .1, o) (tables-kept kinds operands (ownNumber kinds start) t c (f .room) access (f .location) (s .tables) (omega arith));
+                beyond = rw (says .1) (same-from-trans (s .beyond) (keeps-beyond (f .location) kept));
+                tables = tables-kept kinds operands (ownNumber kinds start) t c (f .room) access (f .location) (s .tables) d (rw (says .1, ← o) kept);
                 limit = limit;
                 calm = calm;
                 none = none-next (λ p r. let h = told .1 (p, r) in omega arith);
@@ -207,4 +221,4 @@ module _ (kinds operands : List ℕ) (from events : ℕ) where
         scan-race d true e says = absurd (true≢false e)
         scan-race d false e says =
             let lower = says .0 in
-            (record { within = s .within; none-before = s .none; race = λ h. told .0 (omega arith) }, rw (says .1) (s .beyond))
+            (record { within = s .within; none-before = s .none; race = λ h. told .0 (omega arith) }, rw (says .1) (s .beyond, s .tables))

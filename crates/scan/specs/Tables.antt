@@ -1,11 +1,13 @@
--- The tables of largest numbers, and what the test of one access leaves in them. Assumes nothing.
+-- The tables of largest numbers: what they hold, and what the test of one access leaves in them. Assumes nothing.
 use Prim.Native.Nat.{ℕ, max, _+_, _-_, _<_, _≤_}
 use mathlib.Core.Path.{_≡_}
 use mathlib.Core.Bool.{Bool, true, false, cond}
 use mathlib.Core.List.{List}
+use mathlib.Core.Logic.{_↔_}
 use lib.ListN.{length, getD, set}
 use Rattle.trace.specs.Trace.{READ, SUM, isAccess, LOCATIONS}
 use Rattle.trace.specs.Race.{conflicting}
+use Rattle.scan.specs.Numbered.{Against}
 
 -- For each location the largest number of an earlier write or sum, which a read is held against,
 abbrev pub FOR-READS : ℕ
@@ -18,6 +20,17 @@ FOR-SUMS = 1024
 -- The cells of both.
 abbrev pub TABLES : ℕ
 TABLES = 2048
+
+module _ (kinds operands : List ℕ) (number : ℕ → ℕ) where
+  -- v is the largest number of those of the first n events that an access of kind k to location l is held against, 0 where there is none: what is smaller
+  -- than v is smaller than the number of one of them.
+  abbrev pub Largest : ℕ → ℕ → ℕ → ℕ → Type 0
+  Largest k l n v = (x : ℕ) → (x < v) ↔ ((p : ℕ) × (p < n) × Against kinds operands k l p × (x < number p))
+
+  -- For each location.
+  pub record Tables (n : ℕ) (c : List ℕ) : Type 0 where
+    pub for-reads : (l : ℕ) → l < LOCATIONS → Largest READ l n (getD c (FOR-READS + l) 0)
+    pub for-sums : (l : ℕ) → l < LOCATIONS → Largest SUM l n (getD c (FOR-SUMS + l) 0)
 
 -- The two tables that an access of kind k is held against: FOR-READS twice for a read, both for a write, FOR-SUMS twice for a sum.
 abbrev pub firstHeld : ℕ → ℕ
@@ -63,3 +76,16 @@ keptIn c k l x = storedIn c (FOR-SUMS - secondHeld k) (FOR-SUMS - firstHeld k) l
 abbrev pub TestSays : List ℕ → List ℕ → ℕ → ℕ → ℕ → Bool → Type 0
 TestSays entry exit k l x true = (heldAgainst entry k l ≤ x) × (exit ≡ keptIn entry k l x)
 TestSays entry exit k l x false = (x < heldAgainst entry k l) × (exit ≡ entry)
+
+-- The number x in one table,
+unfoldable pub raisedIn : List ℕ → ℕ → ℕ → ℕ → List ℕ
+raisedIn c table l x = set c (table + l) (raised c table l x)
+
+-- and in both that an access of kind k is kept in, each by itself: where it raced, x is not the largest.
+unfoldable pub racedIn : List ℕ → ℕ → ℕ → ℕ → List ℕ
+racedIn c k l x = raisedIn (raisedIn c (FOR-SUMS - secondHeld k) l x) (FOR-SUMS - firstHeld k) l x
+
+-- The same test, of an access that is kept though it races.
+abbrev pub RaceSays : List ℕ → List ℕ → ℕ → ℕ → ℕ → Bool → Type 0
+RaceSays entry exit k l x true = (x < heldAgainst entry k l) × (exit ≡ racedIn entry k l x)
+RaceSays entry exit k l x false = (heldAgainst entry k l ≤ x) × (exit ≡ keptIn entry k l x)

@@ -10,7 +10,8 @@ ghost use Rattle.trace.specs.Race.{conflicting};
 ghost use Rattle.cells.specs.Cells.{SameFrom};
 ghost use Rattle.ranks.specs.States.{ownNumber};
 ghost use Rattle.scan.specs.Numbered.{Numbered, FirstRace};
-ghost use Rattle.scan.specs.Tables.{FOR-SUMS, TABLES, firstHeld, secondHeld, Testable, Keepable, Calm, storedIn, TestSays};
+ghost use Rattle.scan.specs.Tables.{FOR-SUMS, TABLES, Tables, firstHeld, secondHeld, Testable, Keepable, Calm, storedIn, TestSays};
+ghost use Rattle.scan.specs.Tables.{raisedIn, RaceSays};
 use trace::FORK;
 use trace::READ;
 use trace::SUM;
@@ -115,6 +116,27 @@ fn quick_passes(ws: &mut [u16], kind: u8, location: u16, x: u16) -> bool
     true
 }
 
+fn raise(ws: &mut [u16], table: usize, location: u16, x: u16)
+    requires { ⌜ Keepable (now ws) table table location ⌝ }
+    ensures { λ _. ⌜ now (ws .exit) ≡ raisedIn (now (ws .entry)) table location x ⌝ }
+{
+    let largest = cells::larger(cells::cell(ws, table, location), x);
+    cells::put(ws, table, location, largest);
+}
+
+// Whether an access with number x races with an earlier one. It is kept either way: where it races, x need not be the largest in either of its tables.
+pub fn races(ws: &mut [u16], kind: u8, location: u16, x: u16) -> bool
+    requires { ⌜ Testable (now ws) kind location ⌝ }
+    ensures { λ r. ⌜ RaceSays (now (ws .entry)) (now (ws .exit)) kind location x r ⌝ }
+{
+    if passes(ws, kind, location, x) {
+        return false;
+    }
+    raise(ws, FOR_SUMS - second_held(kind), location, x);
+    raise(ws, FOR_SUMS - first_held(kind), location, x);
+    true
+}
+
 // The position of the first access that races with an earlier one; `events` where there is none. Events before `from` have number 0: none of them races with
 // an earlier one, and none has the larger number. Kinds below `quick` have one table to ask: reads and writes, up to the first sum.
 pub fn first_race(
@@ -127,6 +149,7 @@ pub fn first_race(
     requires { ⌜ Numbered (now kinds) (now operands) (now ws) from events ⌝ }
     ensures { λ r. ⌜ FirstRace (now (kinds .entry)) (now (operands .entry)) (ownNumber (now (kinds .entry)) (now (ws .entry))) events r ⌝ }
     ensures { λ _. ⌜ SameFrom TABLES (now (ws .entry)) (now (ws .exit)) ⌝ }
+    ensures { λ r. ⌜ Tables (now (kinds .entry)) (now (operands .entry)) (ownNumber (now (kinds .entry)) (now (ws .entry))) r (now (ws .exit)) ⌝ }
 {
     cells::clear(ws, TABLES);
     let mut current: u16 = 0;

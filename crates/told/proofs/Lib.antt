@@ -2,6 +2,4 @@
 pub mod Cases
 pub mod Heard
 pub mod Conversions
-pub mod Copies
-pub mod Translations
-pub mod Plans
+pub mod ClosePairs

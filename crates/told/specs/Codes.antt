@@ -1,17 +1,12 @@
--- What a C caller is told: a code and two values for each thing that document 01 has a call say, of the judge a third one, and what the call leaves in the lent
--- buffers. Assumes nothing.
+-- What a C caller is told: a code and two values for each thing that document 01 has a call over a trace say, of the judge a third one, and what the call leaves
+-- in the lent buffers. Assumes nothing.
 use Prim.Native.Nat.{ℕ, zero, suc}
-use mathlib.Core.Path.{_≡_}
-use mathlib.Core.Bool.{Bool, true, false, cond, _||_}
+use mathlib.Core.Bool.{Bool, true, false}
 use mathlib.Core.List.{List, [], _∷_}
-use lib.Dec.{ltb}
-use lib.ListN.{length, getD}
-use lib.Seq.{paste}
+use lib.ListN.{getD}
 use Rattle.trace.specs.Outcome.{Reply, says, refused, Verdict, clean, race, Outcome, OrderingOutcome}
-use Rattle.trace.specs.Slices.{Slices, slices, Translated}
 use Rattle.convert.specs.Conversion.{Done, done, ConvertOutcome}
-use Rattle.form.specs.Decided.{MAX-TEXT-EVENTS, DecidedBy}
-use Rattle.form.specs.Translation.{translated}
+use Rattle.pairs.specs.Pairs.{Slices, slices, PairsOutcome}
 
 -- The code that is returned, and the values.
 pub record Told : Type 0 where
@@ -98,50 +93,29 @@ abbrev pub convertSeen : ℕ → List ℕ → List ℕ → List ℕ → ConvertC
 convertSeen code values operands workspace =
     record { said = record { code = code; values = values }; operands = operands; workspace = workspace }
 
--- ---- a text or a plan to a trace
+-- ---- a number
 
--- A translation: 0 with the number of events; 2 refused, with the number and the position.
-unfoldable pub translationTold : Reply ℕ → Told
-translationTold (says count) = told 0 count 0
-translationTold (refused number position) = told 2 number position
+-- A call that says how many there are, of pairs or of events: 0 with the number; 2 refused, with the number of the row and the position.
+unfoldable pub countTold : Reply ℕ → Told
+countTold (says count) = told 0 count 0
+countTold (refused number position) = told 2 number position
 
--- What a caller hears: the answer that a code and the values of a translation tell, with the three slices.
-unfoldable pub heardTrace : ℕ → List ℕ → Slices → Translated
-heardTrace zero values b = record { answer = says (getD values 0 0); slices = b }
-heardTrace (suc code) values b = record { answer = refused (getD values 0 0) (getD values 1 0); slices = b }
+-- What a caller hears.
+unfoldable pub heardCount : ℕ → List ℕ → Reply ℕ
+heardCount zero values = says (getD values 0 0)
+heardCount (suc code) values = refused (getD values 0 0) (getD values 1 0)
 
--- A call of a translation from C: what is told, and what the three slices then hold.
-pub record TranslateCall : Type 0 where
+-- ---- every close pair
+
+-- A call for pairs from C: what is told, and what the two slices and the workspace then hold.
+pub record PairsCall : Type 0 where
   pub said : Told
   pub slices : Slices
+  pub workspace : List ℕ
 
--- The one that its outcome asks for.
-unfoldable pub translationCall : Translated → TranslateCall
-translationCall o = record { said = translationTold (o .answer); slices = o .slices }
+unfoldable pub pairsCall : PairsOutcome → PairsCall
+pairsCall o = record { said = countTold (o .answer); slices = o .slices; workspace = o .workspace }
 
--- Some slice has fewer cells than a text may make events.
-unfoldable pub isShort : Slices → Bool
-isShort b =
-    ltb (length (b .kinds)) MAX-TEXT-EVENTS || (ltb (length (b .tasks)) MAX-TEXT-EVENTS || ltb (length (b .operands)) MAX-TEXT-EVENTS)
-
--- Then the code is 3, and the slices are as they were.
-abbrev pub shortCall : Slices → TranslateCall
-shortCall b = record { said = told 3 0 0; slices = b }
-
--- The one that a text and three slices of any length ask for.
-unfoldable pub translateCall : List ℕ → Slices → TranslateCall
-translateCall text b = cond (isShort b) (shortCall b) (translationCall (translated text b))
-
-abbrev pub translateSeen : ℕ → List ℕ → Slices → TranslateCall
-translateSeen code values b = record { said = record { code = code; values = values }; slices = b }
-
--- ITS MEANING, by what lines print and not by the reader: some slice is short, and that is told; or none is, and what is told and left is what the text
--- decides (`Decided` of `form`).
-pub data TranslateTells (text : List ℕ) (b : Slices) (call : TranslateCall) : Type 0 where
-  short : isShort b ≡ true → call ≡ shortCall b → TranslateTells text b call
-  decides : isShort b ≡ false → (outcome : Translated) → DecidedBy text b outcome → call ≡ translationCall outcome → TranslateTells text b call
-
--- Slices whose first n cells are those of others. The translation goes to spare slices first.
-abbrev pub copied : ℕ → Slices → Slices → Slices
-copied n from to =
-    slices (paste (to .kinds) 0 (from .kinds) n) (paste (to .tasks) 0 (from .tasks) n) (paste (to .operands) 0 (from .operands) n)
+abbrev pub pairsSeen : ℕ → List ℕ → List ℕ → List ℕ → List ℕ → PairsCall
+pairsSeen code values earlier later workspace =
+    record { said = record { code = code; values = values }; slices = slices earlier later; workspace = workspace }

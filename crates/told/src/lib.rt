@@ -1,23 +1,19 @@
-// What a C caller is told: the judge of a whole trace, the ordering call, the conversion and the translations of a text and of a plan return a code and store two
-// values, the judge a third one, and `specs/Codes.antt` says which. `capi` has them under their names in C.
-mod translation;
-
+// What a C caller is told: the judge of a whole trace, the ordering call, the conversion and the call for pairs return a code and store two values, the judge a
+// third one, and `specs/Codes.antt` says which. `capi` has them under their names in C.
 ghost use mathlib.Core.Path.{_≡_};
 ghost use Rattle.trace.specs.Outcome.{judgeOutcome, orderingOutcome};
-ghost use Rattle.trace.specs.Slices.{slices};
 ghost use Rattle.trace.specs.Demands.{JudgeDemand1, JudgeDemand2, JudgeDemand3, JudgeLinks};
 ghost use Rattle.convert.specs.Conversion.{convertOutcome};
 ghost use Rattle.convert.specs.Demands.{ConvertDemand1, ConvertSets, SameVerdicts};
-ghost use Rattle.plan.specs.Decided.{DecidedBy, TracesPlan};
-ghost use Rattle.plan.specs.Tracing.{planned};
+ghost use Rattle.pairs.specs.Pairs.{slices, pairsOutcome};
+ghost use Rattle.pairs.specs.Demands.{PairsDemand1, PairsCallDemand};
 ghost use Rattle.told.specs.Codes.{heard, heardLinks, judgeCall, judgeSeen, orderingCall, orderingSeen};
 ghost use Rattle.told.specs.Codes.{heardConversion, convertCall, convertSeen};
-ghost use Rattle.told.specs.Codes.{heardTrace, translationCall, translateCall, translateSeen, TranslateTells};
+ghost use Rattle.told.specs.Codes.{heardCount, pairsCall, pairsSeen};
 use convert::Conversion;
-use text::limits::MAX_TEXT_EVENTS;
+use pairs::Listing;
 use trace::Answer;
 use trace::Ordering;
-use trace::Translation;
 
 // What the judge returns.
 pub const CLEAN: u64 = 0;
@@ -32,12 +28,10 @@ const YES: u64 = 1;
 // What the conversion returns.
 const CONVERTED: u64 = 0;
 
-// What a translation returns where a trace is written; and that of a text, where a slice has too few cells for every text.
-const TRANSLATED: u64 = 0;
+// What the call for pairs returns.
+const LISTED: u64 = 0;
 
-const SHORT: u64 = 3;
-
-// What all return where the trace, the text or the plan is turned back.
+// What all return where the trace is turned back.
 pub const REFUSED: u64 = 2;
 
 // The judge of a whole trace.
@@ -138,75 +132,33 @@ pub fn convert(
     }
 }
 
-// Text to a trace. The text is translated to spare slices first, since `translate` takes them of one size, and the lent ones may have more cells.
-pub fn translate(
-    text: &[u8],
-    kinds: &mut [u8],
-    tasks: &mut [u16],
-    operands: &mut [u16],
+// Every close pair.
+pub fn pairs(
+    kinds: &[u8],
+    tasks: &[u16],
+    operands: &[u16],
+    ws: &mut [u16],
+    earlier: &mut [u16],
+    later: &mut [u16],
     values: &mut [u64; 2],
 ) -> u64
-    ensures outcome { λ r. ⌜ translateSeen r (now (values .exit)) (slices (now (kinds .exit)) (now (tasks .exit)) (now (operands .exit)))
-        ≡ translateCall (now (text .entry)) (slices (now (kinds .entry)) (now (tasks .entry)) (now (operands .entry))) ⌝ }
-    ensures form { λ r. ⌜ TranslateTells (now (text .entry)) (slices (now (kinds .entry)) (now (tasks .entry)) (now (operands .entry)))
-        (translateSeen r (now (values .exit)) (slices (now (kinds .exit)) (now (tasks .exit)) (now (operands .exit)))) ⌝ }
+    ensures outcome { λ r. ⌜ pairsSeen r (now (values .exit)) (now (earlier .exit)) (now (later .exit)) (now (ws .exit))
+        ≡ pairsCall (pairsOutcome (now (kinds .entry)) (now (tasks .entry)) (now (operands .entry)) (now (ws .entry))
+        (slices (now (earlier .entry)) (now (later .entry)))) ⌝ }
+    ensures demand1 { λ r. ⌜ PairsDemand1 (now (kinds .entry)) (now (tasks .entry)) (now (operands .entry)) (now (ws .entry))
+        (slices (now (earlier .entry)) (now (later .entry))) (heardCount r (now (values .exit)))
+        (slices (now (earlier .exit)) (now (later .exit))) (now (ws .exit)) ⌝ }
+    ensures pairs { λ r. ⌜ PairsCallDemand (now (kinds .entry)) (now (tasks .entry)) (now (operands .entry)) (now (ws .entry))
+        (slices (now (earlier .entry)) (now (later .entry))) (heardCount r (now (values .exit)))
+        (slices (now (earlier .exit)) (now (later .exit))) ⌝ }
 {
-    if translation::is_short(kinds.len(), tasks.len(), operands.len()) {
-        *values = [0, 0];
-        return SHORT;
-    }
-    let mut spare_kinds = [0u8; MAX_TEXT_EVENTS];
-    let mut spare_tasks = [0u16; MAX_TEXT_EVENTS];
-    let mut spare_operands = [0u16; MAX_TEXT_EVENTS];
-    let translation = text::translate(
-        text,
-        &mut spare_kinds,
-        &mut spare_tasks,
-        &mut spare_operands,
-    );
-    match translation {
-        Translation::Events(count) => {
-            translation::copy_events(
-                &spare_kinds,
-                &spare_tasks,
-                &spare_operands,
-                kinds,
-                tasks,
-                operands,
-                count,
-            );
+    let listing = pairs::list(kinds, tasks, operands, ws, earlier, later);
+    match listing {
+        Listing::Listed(count) => {
             *values = [count as u64, 0];
-            TRANSLATED
+            LISTED
         }
-        Translation::Refused(refusal) => {
-            *values = [refusal.number as u64, refusal.position as u64];
-            REFUSED
-        }
-    }
-}
-
-// A plan to a trace.
-pub fn plan(
-    text: &[u8],
-    kinds: &mut [u8],
-    tasks: &mut [u16],
-    operands: &mut [u16],
-    values: &mut [u64; 2],
-) -> u64
-    ensures outcome { λ r. ⌜ translateSeen r (now (values .exit)) (slices (now (kinds .exit)) (now (tasks .exit)) (now (operands .exit)))
-        ≡ translationCall (planned (now (text .entry)) (slices (now (kinds .entry)) (now (tasks .entry)) (now (operands .entry)))) ⌝ }
-    ensures grammar { λ r. ⌜ DecidedBy (now (text .entry)) (slices (now (kinds .entry)) (now (tasks .entry)) (now (operands .entry)))
-        (heardTrace r (now (values .exit)) (slices (now (kinds .exit)) (now (tasks .exit)) (now (operands .exit)))) ⌝ }
-    ensures trace { λ r. ⌜ TracesPlan (now (text .entry))
-        (heardTrace r (now (values .exit)) (slices (now (kinds .exit)) (now (tasks .exit)) (now (operands .exit)))) ⌝ }
-{
-    let translation = plan_reader::translate(text, kinds, tasks, operands);
-    match translation {
-        Translation::Events(count) => {
-            *values = [count as u64, 0];
-            TRANSLATED
-        }
-        Translation::Refused(refusal) => {
+        Listing::Refused(refusal) => {
             *values = [refusal.number as u64, refusal.position as u64];
             REFUSED
         }

@@ -1,6 +1,6 @@
 -- Laws of the list functions of `Orders`: how often a number stands in a list, the place of its first occurrence, what stands before it, the
--- selection of what passes a test, the latest entry that passes one, lists that count up, and lists whose first entries are made 0. They hold of all
--- lists of numbers and say nothing of traces. Assumes nothing.
+-- selection of what passes a test, the latest entry that passes one, lists that count up, lists whose first entries are made 0, and lists that are stored
+-- in another. They hold of all lists of numbers and say nothing of traces. Assumes nothing.
 use Prim.Native.Nat.{ℕ, zero, suc, _+_, _-_, _<_, _≤_}
 use native.Mathlib.Nat.{add-zero, zero-add}
 use native.Mathlib.Omega.{arith}
@@ -10,10 +10,10 @@ use mathlib.Core.Bool.{Bool, true, false, true≢false}
 use mathlib.Core.List.{List, [], _∷_, _++_, append-nil}
 use mathlib.Core.Option.{Option, none, some, Option·none-ne-some, Option·some-injective}
 use lib.Dec.{eqb}
-use lib.ListN.{length, getD, replicate, drop, length-append, length-replicate, length-drop, getD-replicate, List·getD-append}
-use lib.Seq.{getD-append-add, getD-drop}
+use lib.ListN.{length, getD, set, replicate, drop, length-append, length-replicate, length-drop, getD-replicate, List·getD-append}
+use lib.Seq.{sets, sets-eq, getD-append-add, getD-drop, drop-set-lt}
 use borrow.Author.Tests.{eqb-true, eqb-false, eq-eqb, ne-eqb}
-use Rattle.trace.specs.Orders.{oneIf, occurrences, Rising, place, countUp, positions, select, before, orThis, latest}
+use Rattle.trace.specs.Orders.{oneIf, occurrences, Rising, place, countUp, positions, select, chosen, before, orThis, latest}
 use Rattle.trace.proofs.Tests.{by-test, either, by-option, same-or-not, lt-or-le}
 
 -- ---- how often a number stands in a list
@@ -451,3 +451,109 @@ select-snoc test n = ap (select test) (positions-snoc n) ∙ select-append test 
 pub select-positions-failed :
     (test : ℕ → Bool) (n : ℕ) → test n ≡ false → select test (positions (suc n)) ≡ select test (positions n)
 select-positions-failed test n h = select-snoc test n ∙ rw h (append-nil (select test (positions n)))
+
+-- One stretch of positions after another.
+pub countUp-append : (k m n : ℕ) → countUp k (m + n) ≡ countUp k m ++ countUp (k + m) n
+countUp-append k zero n = rw (zero-add n, add-zero k)
+countUp-append k (suc m) n =
+    let e : suc k + m ≡ k + suc m = omega arith in
+    let f : suc m + n ≡ suc (m + n) = omega arith in
+    ap (countUp k) f
+    ∙ ap (λ (l : List ℕ). k ∷ l) (countUp-append (suc k) m n ∙ ap (λ (q : ℕ). countUp (suc k) m ++ countUp q n) e)
+
+-- Two tests that agree on some positions select the same of them.
+pub select-countUp-same :
+    (f g : ℕ → Bool) (k m : ℕ) → ((p : ℕ) → k ≤ p → p < k + m → f p ≡ g p) → select f (countUp k m) ≡ select g (countUp k m)
+select-countUp-same f g k zero h = refl
+select-countUp-same f g k (suc m) h =
+    let rest = select-countUp-same f g (suc k) m (λ p low high. h p (omega arith) (omega arith)) in
+    let here : f k ≡ g k = h k (omega arith) (omega arith) in
+    rw (here, rest)
+
+-- ---- positions of a stretch that pass a test
+
+pub chosen-none : (test : ℕ → Bool) (from : ℕ) → chosen test from from ≡ []
+unfolding chosen
+chosen-none test from = let none : from - from ≡ 0 = omega arith in rw none
+
+module _ (test : ℕ → Bool) (from p : ℕ) (low : from ≤ p) where
+  -- Position p is added where it passes, else not.
+  chosen-step : chosen test from (p + 1) ≡ chosen test from p ++ select test (p ∷ [])
+  unfolding chosen
+  chosen-step =
+      let e : p + 1 - from ≡ suc (p - from) = omega arith in
+      let f : from + (p - from) ≡ p = omega arith in
+      ap (λ (m : ℕ). select test (countUp from m)) e
+      ∙ (ap (select test) (countUp-snoc from (p - from) ∙ ap (λ (q : ℕ). countUp from (p - from) ++ (q ∷ [])) f)
+      ∙ select-append test (countUp from (p - from)) (p ∷ []))
+
+  pub chosen-passed : test p ≡ true → chosen test from (p + 1) ≡ chosen test from p ++ (p ∷ [])
+  chosen-passed e = chosen-step ∙ rw e
+
+  pub chosen-failed : test p ≡ false → chosen test from (p + 1) ≡ chosen test from p
+  chosen-failed e = chosen-step ∙ rw e (append-nil (chosen test from p))
+
+-- Where `to` is not past `from`, there is none.
+pub chosen-empty : (test : ℕ → Bool) (from to : ℕ) → to ≤ from → chosen test from to ≡ []
+unfolding chosen
+chosen-empty test from to h = let none : to - from ≡ 0 = omega arith in rw none
+
+-- Positions at the end of which none passes can be left out.
+pub chosen-cut :
+    (test : ℕ → Bool) (from to k : ℕ) → ((p : ℕ) → from ≤ p → to ≤ p → p < to + k → test p ≡ false) → chosen test from (to + k) ≡ chosen test from to
+chosen-cut test from to zero fails = rw (add-zero to)
+chosen-cut test from to (suc k) fails =
+    let e : to + suc k ≡ to + k + 1 = omega arith in
+    let less = chosen-cut test from to k (λ p low far h. fails p low far (omega arith)) in
+    either (lt-or-le (to + k) from)
+    (λ h. chosen-empty test from (to + suc k) (omega arith) ∙ sym (chosen-empty test from to (omega arith)))
+    (λ h. ap (chosen test from) e ∙ (chosen-failed test from (to + k) h (fails (to + k) h (omega arith) (omega arith)) ∙ less))
+
+pub chosen-few : (test : ℕ → Bool) (from k : ℕ) → length (chosen test from (from + k)) ≤ k
+chosen-few test from zero = omega (arith, ap length (ap (chosen test from) (add-zero from) ∙ chosen-none test from))
+chosen-few test from (suc k) =
+    let e : from + suc k ≡ from + k + 1 = omega arith in
+    let less = chosen-few test from k in
+    by-test (test (from + k))
+    (λ passed.
+    omega (arith, ap length (ap (chosen test from) e ∙ chosen-passed test from (from + k) (omega arith) passed), length-append (chosen test from (from + k)) ((from + k) ∷ [])))
+    (λ failed. omega (arith, ap length (ap (chosen test from) e ∙ chosen-failed test from (from + k) (omega arith) failed)))
+
+-- Which those are, and that they rise.
+pub chosen-iff : (test : ℕ → Bool) (from to p : ℕ) → (0 < occurrences p (chosen test from to)) ↔ ((from ≤ p) × (p < to) × (test p ≡ true))
+unfolding chosen
+chosen-iff test from to p = (
+  λ h.
+      let passed = passed-of-select test p (countUp from (to - from)) h in
+      let some = occurrences-select-passed test p (countUp from (to - from)) passed in
+      either (lt-or-le p from) (λ low. absurd (omega (arith, occurrences-countUp-below p from (to - from) low)))
+      (λ low. either (lt-or-le p to) (λ high. (low, high, passed)) (λ high. absurd (omega (arith, occurrences-countUp-above p from (to - from) (omega arith))))),
+  λ w.
+      let low = w .0 in
+      let high = w .1 in
+      omega (arith, occurrences-select-passed test p (countUp from (to - from)) (w .2), occurrences-countUp-inside p from (to - from) low (omega arith)),
+)
+
+pub chosen-rises : (test : ℕ → Bool) (from to : ℕ) → Rising (chosen test from to)
+unfolding chosen
+chosen-rises test from to = rising-select test (countUp from (to - from)) (rising-countUp from (to - from))
+
+-- ---- lists that are stored in another
+
+-- One list after another.
+pub sets-append : (xs ys l : List ℕ) (i : ℕ) → sets l i (xs ++ ys) ≡ sets (sets l i xs) (i + length xs) ys
+sets-append [] ys l i = rw add-zero
+sets-append (x ∷ xs) ys l i =
+    let e : suc i + length xs ≡ i + suc (length xs) = omega arith in
+    sets-append xs ys (set l i x) (suc i) ∙ ap (λ (z : ℕ). sets (sets (set l i x) (suc i) xs) z ys) e
+
+-- Cells past it are as they were.
+pub drop-sets : (vs l : List ℕ) (i n : ℕ) → i + length vs ≤ n → drop n (sets l i vs) ≡ drop n l
+drop-sets [] l i n h = refl
+drop-sets (x ∷ vs) l i n h = drop-sets vs (set l i x) (suc i) n (omega arith) ∙ drop-set-lt n l i x (omega arith)
+
+-- From cell 0 on.
+pub sets-front : (vs l : List ℕ) (n : ℕ) → length vs ≡ n → n ≤ length l → sets l 0 vs ≡ vs ++ drop n l
+sets-front vs l n long room =
+    let e : 0 + length vs ≡ n = omega arith in
+    sets-eq vs l 0 (omega arith) ∙ ap (λ (k : ℕ). vs ++ drop k l) e

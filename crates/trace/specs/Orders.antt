@@ -1,5 +1,5 @@
 -- Orders of events, what a location holds after one, and what a read sees in one (document 01, "Paths, conflicts, races"; document 02, K3). Assumes nothing.
-use Prim.Native.Nat.{ℕ, zero, suc, _+_, _<_, _≤_}
+use Prim.Native.Nat.{ℕ, zero, suc, _+_, _-_, _<_, _≤_}
 use mathlib.Core.Path.{_≡_}
 use mathlib.Core.Bool.{Bool, true, false, cond, _&&_}
 use mathlib.Core.List.{List, [], _∷_}
@@ -51,6 +51,10 @@ positions n = countUp 0 n
 abbrev pub select : (ℕ → Bool) → List ℕ → List ℕ
 select test [] = []
 select test (x ∷ xs) = cond (test x) (x ∷ select test xs) (select test xs)
+
+-- The positions from `from` up to `to` that pass a test, in position order.
+unfoldable pub chosen : (ℕ → Bool) → ℕ → ℕ → List ℕ
+chosen test from to = select test (countUp from (to - from))
 
 -- What stands before the first r.
 abbrev pub before : ℕ → List ℕ → List ℕ

@@ -2,7 +2,8 @@
 use native.Mathlib.Omega.{arith}
 use borrow.Author.Needs.{needs}
 use Rattle.trace.specs.Answers.{judgeReply, judgeLinks}
-use Rattle.judge.proofs.Deciding.{scan-numbered, chains-asked, race-segments, race-room, race-inside, race-partnered}
+use Rattle.scan.proofs.Racing.{numbered-ranked}
+use Rattle.judge.proofs.Deciding.{chains-asked, race-segments, race-room, race-inside, race-partnered}
 use Rattle.judge.proofs.Deciding.{decided-race, decided-refused, decided-clean}
 use Rattle.judge.proofs.decide.Statement.{statement}
 use Rattle.judge.proofs.decide.Tie as tie
@@ -11,7 +12,7 @@ first-race-requires : tie.Need-first-race-requires
 first-race-requires c κs =
     let ranked = c .before .before .before in
     let start = ranked .before .before .before .before .before .before .before .before in
-    scan-numbered (start .pre .0) (ranked .rank .ensures .0) (ranked .rank .ensures .1 .0)
+    numbered-ranked (start .pre .0) (ranked .rank .ensures .0) (ranked .rank .ensures .1 .0)
 
 longest-requires : tie.Need-longest-requires
 longest-requires c κs =
@@ -19,7 +20,7 @@ longest-requires c κs =
     let ranked = scanned .before .before .before .before in
     let start = ranked .before .before .before .before .before .before .before .before in
     let found = scanned .first-race .ensures in
-    chains-asked (start .pre .0) (ranked .rank .ensures .0) (found .0) (found .1) (ranked .rank .ensures .1 .1)
+    chains-asked (start .pre .0) (ranked .rank .ensures .0) (found .0) (found .1 .0) (ranked .rank .ensures .1 .1)
 
 spread-requires : tie.Need-spread-requires
 spread-requires c κs =
@@ -30,7 +31,7 @@ spread-requires c κs =
     let said = ranked .rank .ensures .0 in
     let found = scanned .first-race .ensures in
     let links = linked .longest .ensures in
-    (race-segments (start .pre .0) said (found .0) (found .1) links, race-room (start .pre .0) said (found .0) (found .1) links)
+    (race-segments (start .pre .0) said (found .0) (found .1 .0) links, race-room (start .pre .0) said (found .0) (found .1 .0) links)
 
 report-requires : tie.Need-report-requires
 report-requires c κs =
@@ -43,11 +44,11 @@ report-requires c κs =
     let found = scanned .first-race .ensures in
     let links = linked .longest .ensures in
     let taken = spread .before .before .if1 .taken in
-    let inside = race-inside (start .pre .0) said (found .0) (found .1) links taken (spread .spread .ensures) in (
+    let inside = race-inside (start .pre .0) said (found .0) (found .1 .0) links taken (spread .spread .ensures) in (
       inside,
       (
         (omega (arith, inside .0, start .pre .1 .of-first), omega (arith, inside .0, start .pre .1 .of-second)),
-        race-partnered (start .pre .0) said (found .0) (found .1) links taken (spread .spread .ensures),
+        race-partnered (start .pre .0) said (found .0) (found .1 .0) links taken (spread .spread .ensures),
       ),
     )
 
@@ -62,7 +63,7 @@ returns c =
     let start = ranked .before .before .before .before .before .before .before .before in
     let found = scanned .first-race .ensures in
     let decided =
-    decided-race (start .pre .0) (ranked .rank .ensures .0) (found .0) (found .1) (linked .longest .ensures) (spread .before .before .if1 .taken)
+    decided-race (start .pre .0) (ranked .rank .ensures .0) (found .0) (found .1 .0) (linked .longest .ensures) (spread .before .before .if1 .taken)
     (spread .spread .ensures) (told .report .result) (told .report .ensures) in
     record { rest = decided .rest; answer = decided .answer; beside = decided .beside; bound = decided .bound; first = decided .first; second = decided .second }
 
@@ -73,7 +74,7 @@ refused c =
     let ranked = scanned .before .before .before .before in
     let start = ranked .before .before .before .before .before .before .before .before in
     let found = scanned .first-race .ensures in
-    decided-refused (start .pre .0) (ranked .rank .ensures .0) (found .0) (found .1) (linked .longest .ensures) _ _ (c .before .before .before .if1 .left)
+    decided-refused (start .pre .0) (ranked .rank .ensures .0) (found .0) (found .1 .0) (linked .longest .ensures) _ _ (c .before .before .before .if1 .left)
     _ _ (c .before .if2 .taken) (c .refuse .ensures)
 
 returns-3 : tie.Need-returns-3
@@ -84,7 +85,7 @@ returns-3 c =
     let ranked = scanned .before .before .before .before in
     let start = ranked .before .before .before .before .before .before .before .before in
     let found = scanned .first-race .ensures in
-    decided-clean (start .pre .0) (ranked .rank .ensures .0) (found .0) (found .1) (linked .longest .ensures) _ _ (c .before .before .if1 .left)
+    decided-clean (start .pre .0) (ranked .rank .ensures .0) (found .0) (found .1 .0) (linked .longest .ensures) _ _ (c .before .before .if1 .left)
     (c .if2 .left)
 
 pub decide-spec : {M : Type 1} → statement M

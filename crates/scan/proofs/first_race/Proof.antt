@@ -119,7 +119,7 @@ first-race-spec =
     (λ c. search needs)
     (λ c. search needs)
     quick-passes-requires
-    (λ c. returns c .1 .long)
+    (λ c. returns c .1 .0 .long)
     returns
     is-move-requires
     add-current
@@ -127,10 +127,10 @@ first-race-spec =
     (λ c. search needs)
     (λ c. search needs)
     passes-requires
-    (λ c. returns-2 c .1 .long)
+    (λ c. returns-2 c .1 .0 .long)
     returns-2
     (λ c. search needs)
     (λ c. search needs)
     loop-again
-    (λ c. at-end c .1 .long)
+    (λ c. at-end c .1 .0 .long)
     at-end)

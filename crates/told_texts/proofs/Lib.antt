@@ -1,0 +1,4 @@
+-- The laws behind the contracts.
+pub mod Copies
+pub mod Translations
+pub mod Plans
