@@ -2,7 +2,7 @@
 use Prim.Native.Nat.{ℕ, suc, _+_, _<_, _≤_}
 use mathlib.Core.Path.{_≡_, refl, sym, ap₂, subst, _∙_}
 use mathlib.Core.Bool.{Bool, true, false, true≢false, false≢true, _||_}
-use mathlib.Core.List.{List, [], _++_, map}
+use mathlib.Core.List.{List, [], _∷_, _++_, map}
 use mathlib.Core.Logic.{_≢_, inl, inr}
 use native.Mathlib.Omega.{arith}
 use lib.Dec.{ltb}
@@ -81,8 +81,11 @@ tells-none b = tells-list [] b (none-short b)
 rest-past : {n : ℕ} {entry exit : List ℕ} → SameFrom TABLES entry exit → Rest n entry exit
 rest-past same = rest-beyond (same-beyond (omega arith) same)
 
-module _ {kinds operands entry one : List ℕ} {b b₁ : Slices} {count : ℕ} (counted : PassSays kinds operands entry one false b b₁ count) (short : Bool)
-    (tested : short ≡ tooShort b₁ count) where
+none-counted : (list : List Pair) → 0 ≡ length list → list ≡ []
+none-counted [] e = refl
+none-counted (x ∷ list) e = absurd (omega arith)
+
+module _ {kinds operands entry one : List ℕ} {b b₁ : Slices} {count : ℕ} (counted : PassSays kinds operands entry one false b b₁ count) where
   abbrev all : List Pair
   all = racing kinds operands entry (length kinds)
 
@@ -90,26 +93,32 @@ module _ {kinds operands entry one : List ℕ} {b b₁ : Slices} {count : ℕ} (
   unfolding written
   slices-left = counted .slices
 
-  short-is : short ≡ tooShort b (length all)
-  short-is = rw (← slices-left, ← counted .counted) tested
+  pub list-empty : count ≡ 0 → ListSays kinds operands entry one b b₁ (says 0)
+  list-empty none =
+      let empty = none-counted all (sym none ∙ counted .counted) in
+      record { rest = rest-past (counted .beyond); told = λ w. rw (slices-left, empty) (tells-none b w) }
 
-  pub list-short : (reply : Reply ℕ) → short ≡ true → reply ≡ refused 20 0 → ListSays kinds operands entry one b b₁ reply
-  list-short reply e said =
-      record {
-        rest = rest-past (counted .beyond);
-        told = λ w. rw (slices-left, said) (tells-short all b (sym short-is ∙ e) w);
-      }
+  module _ (short : Bool) (tested : short ≡ tooShort b₁ count) where
+    short-is : short ≡ tooShort b (length all)
+    short-is = rw (← slices-left, ← counted .counted) tested
 
-  module _ (e : short ≡ false) where
-    pub fits-writing : Fits true (length (racing kinds operands one (length kinds))) b₁
-    fits-writing =
+    pub list-short : (reply : Reply ℕ) → short ≡ true → reply ≡ refused 20 0 → ListSays kinds operands entry one b b₁ reply
+    list-short reply e said =
+        record {
+          rest = rest-past (counted .beyond);
+          told = λ w. rw (slices-left, said) (tells-short all b (sym short-is ∙ e) w);
+        }
+
+    pub fits-writing : short ≡ false → Fits true (length (racing kinds operands one (length kinds))) b₁
+    fits-writing e =
         let room = long-enough b (length all) (sym short-is ∙ e) in
         rw (racing-same (counted .beyond) kinds operands (length kinds), slices-left)
         (record { earlier = λ asked. room .0; later = λ asked. room .1 })
 
     pub list-written :
-        {two : List ℕ} {b₂ : Slices} {count₂ : ℕ} → PassSays kinds operands one two true b₁ b₂ count₂ → ListSays kinds operands entry two b b₂ (says count)
-    list-written wrote =
+        {two : List ℕ} {b₂ : Slices} {count₂ : ℕ} → short ≡ false → PassSays kinds operands one two true b₁ b₂ count₂
+        → ListSays kinds operands entry two b b₂ (says count)
+    list-written e wrote =
         record {
           rest = rest-trans (rest-past (counted .beyond)) (rest-past (wrote .beyond));
           told = λ w.

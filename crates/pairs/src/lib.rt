@@ -261,7 +261,7 @@ fn is_short(earlier: &[u16], later: &[u16], count: usize) -> bool
     later.len() < count
 }
 
-// The list, where the events have their numbers: counted, and then written.
+// The list, where the events have their numbers: counted, and then written, if there is something to write.
 fn write_list(
     kinds: &[u8],
     operands: &[u16],
@@ -275,6 +275,9 @@ fn write_list(
         (slices (now (earlier .entry)) (now (later .entry))) (slices (now (earlier .exit)) (now (later .exit))) (listingReply r) ⌝ }
 {
     let count = pass(kinds, operands, ws, from, earlier, later, false);
+    if count == 0 {
+        return Listing::Listed(0);
+    }
     if is_short(earlier, later, count) {
         return refuse(SHORT_SLICE, 0);
     }
