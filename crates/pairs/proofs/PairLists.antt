@@ -16,11 +16,11 @@ use Rattle.pairs.specs.Close.{stored, written}
 -- ---- the pairs of one t
 
 -- Two tests that agree on a stretch choose the same of it.
-pub chosen-agree : (f g : ℕ → Bool) (from to : ℕ) → ((p : ℕ) → p < to → f p ≡ g p) → chosen f from to ≡ chosen g from to
+pub chosen-agree : (f g : ℕ → Bool) (from to : ℕ) → ((p : ℕ) → from ≤ p → p < to → f p ≡ g p) → chosen f from to ≡ chosen g from to
 unfolding chosen
 chosen-agree f g from to agree =
     either (lt-or-le to from) (λ l. let none : to - from ≡ 0 = omega arith in rw none)
-    (λ l. select-countUp-same f g from (to - from) (λ p low high. agree p (omega arith)))
+    (λ l. select-countUp-same f g from (to - from) (λ p low high. agree p low (omega arith)))
 
 module _ (test : ℕ → ℕ → Bool) (t : ℕ) where
   pub at-few : length (pairsAt test t) ≤ CLOSE
@@ -45,7 +45,7 @@ module _ (test : ℕ → ℕ → Bool) (t : ℕ) where
 
   pub at-agree : (other : ℕ → ℕ → Bool) → ((s : ℕ) → s < t → test s t ≡ other s t) → pairsAt test t ≡ pairsAt other t
   unfolding pairsAt
-  at-agree other agree = ap (map (λ s. pair s t)) (chosen-agree (λ s. test s t) (λ s. other s t) (t - CLOSE) t agree)
+  at-agree other agree = ap (map (λ s. pair s t)) (chosen-agree (λ s. test s t) (λ s. other s t) (t - CLOSE) t (λ s low less. agree s less))
 
 -- ---- the pairs below n
 

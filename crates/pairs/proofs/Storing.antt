@@ -1,17 +1,20 @@
 -- The events of a stretch that pass a test, counted, and stored one after the other where each event is stored and the next one over it if it fails. Nothing here
 -- is of traces. Assumes nothing.
 use Prim.Native.Nat.{ℕ, zero, suc, _+_, _-_, max, _<_, _≤_}
-use mathlib.Core.Path.{_≡_, refl, sym, ap, _∙_}
+use mathlib.Core.Path.{_≡_, refl, sym, ap, subst, _∙_}
 use mathlib.Core.Bool.{Bool, true, false}
-use mathlib.Core.List.{List, [], _∷_, _++_, append-nil, map, map-append}
+use mathlib.Core.List.{List, [], _∷_, _++_, append-nil, map}
 use mathlib.Core.Logic.{_⊎_, inl, inr}
 use native.Mathlib.Omega.{arith}
 use native.Mathlib.Nat.{add-zero}
-use lib.ListN.{length, getD, set, length-set, length-append, length-map}
+use lib.Dec.{eqb}
+use lib.ListN.{length, getD, set, replicate, length-set, length-append, length-replicate}
 use lib.Seq.{sets, ext-getD, getD-drop, getD-set-same, getD-set-other, length-sets}
 use mir.Val.{boolByte}
 use Rattle.trace.specs.Orders.{countUp, chosen}
+use Rattle.pairs.specs.Pairs.{CLOSE}
 use Rattle.trace.proofs.Tests.{by-test, either, same-or-not, lt-or-le}
+use Rattle.ranks.proofs.Leaves.{bit-few}
 use Rattle.trace.proofs.Lists.{select-append, countUp-append, chosen-none, chosen-empty, chosen-passed, chosen-failed, sets-append, drop-sets}
 
 -- ---- stretches
@@ -70,6 +73,53 @@ module _ (test : ℕ → Bool) (from : ℕ) where
       (λ l. let e : s ≡ from = omega arith in omega (arith, ap length (ap (chosen test from) e ∙ chosen-none test from), ap length (chosen-empty test from to (omega arith))))
       (λ l. let e : s ≡ to = omega arith in rw (← e) c)
 
+-- ---- the loop that marks: before each turn the events up to s are marked and counted
+
+pub record Marking (test : ℕ → Bool) (from to : ℕ) (marks : List ℕ) (count s : ℕ) : Type 0 where
+  pub low : from ≤ s
+  pub high : s ≤ max from to
+  pub long : length marks ≡ CLOSE
+  pub each : (p : ℕ) → from ≤ p → p < s → getD marks (p - from) 0 ≡ boolByte (test p)
+  pub counted : count ≡ length (chosen test from s)
+  pub few : count + from ≤ s
+
+pub marking-begins : (test : ℕ → Bool) (from to : ℕ) (marks : List ℕ) → length marks ≡ CLOSE → Marking test from to marks 0 from
+marking-begins test from to marks long =
+    record {
+      low = omega arith;
+      high = omega arith;
+      long = long;
+      each = λ p low less. absurd (omega arith);
+      counted = counted-none test from;
+      few = omega arith;
+    }
+
+module _ {test : ℕ → Bool} {from to : ℕ} {marks : List ℕ} {count s : ℕ} (m : Marking test from to marks count s) (near : to ≤ from + CLOSE) where
+  pub marking-more : (b : Bool) → b ≡ test s → s < to → Marking test from to (set marks (s - from) (boolByte b)) (count + boolByte b) (s + 1)
+  marking-more b e inside =
+      let low = m .low in
+      let long = m .long in
+      let few = m .few in
+      let bit = bit-few b in
+      record {
+        low = omega arith;
+        high = omega arith;
+        long = length-set marks (s - from) (boolByte b) ∙ m .long;
+        each = λ p before less.
+            either (same-or-not p s) (λ same. rw (same, ← e) (getD-set-same marks (s - from) (boolByte b) 0 (omega arith)))
+            (λ other. getD-set-other marks (s - from) (p - from) (boolByte b) 0 (λ q. omega arith) ∙ m .each p before (omega arith));
+        counted = counted-more test from b count s e low (m .counted);
+        few = omega arith;
+      }
+
+  pub marking-ends :
+      to ≤ s
+      → ((p : ℕ) → from ≤ p → p < to → getD marks (p - from) 0 ≡ boolByte (test p)) × ((count ≡ length (chosen test from to)) × (count ≤ CLOSE))
+  marking-ends end =
+      let few = m .few in
+      let high = m .high in
+      (λ p low less. m .each p low (omega arith), (counted-end test from count s to (m .low) high end (m .counted), omega arith))
+
 -- ---- the store
 
 -- Of a slice that held e, the cells from `at` on hold xs, those from `end` on are as they were, and between nothing is said.
@@ -126,75 +176,79 @@ module _ {e : List ℕ} {at end : ℕ} {xs l : List ℕ} (s : Stores e at end xs
 
 -- ---- the loop that stores: before each turn those up to s are stored, and i is past them
 
-pub record Writing (test : ℕ → Bool) (t from to : ℕ) (earlier later : List ℕ) (at end : ℕ) (earlier′ later′ : List ℕ) (i s : ℕ) : Type 0 where
+pub record Writing (test : ℕ → Bool) (from to : ℕ) (entry : List ℕ) (at end : ℕ) (l : List ℕ) (i s : ℕ) : Type 0 where
   pub low : from ≤ s
   pub high : s ≤ max from to
   pub place : i ≡ at + length (chosen test from s)
   pub within : i ≤ end
-  pub in-earlier : Stores earlier at end (chosen test from s) earlier′
-  pub in-later : Stores later at end (map (λ p. t) (chosen test from s)) later′
+  pub held : Stores entry at end (chosen test from s) l
 
 pub writing-begins :
-    (test : ℕ → Bool) (t from to : ℕ) (earlier later : List ℕ) (at end : ℕ) → end ≡ at + length (chosen test from to)
-    → Writing test t from to earlier later at end earlier later at from
-writing-begins test t from to earlier later at end all =
+    (test : ℕ → Bool) (from to : ℕ) (entry : List ℕ) (at end : ℕ) → end ≡ at + length (chosen test from to)
+    → Writing test from to entry at end entry at from
+writing-begins test from to entry at end all =
     let none = chosen-none test from in
-    record {
-      low = omega arith;
-      high = omega arith;
-      place = omega (arith, ap length none);
-      within = omega arith;
-      in-earlier = rw none (stores-none earlier at end);
-      in-later = rw none (stores-none later at end);
-    }
+    record { low = omega arith; high = omega arith; place = omega (arith, ap length none); within = omega arith; held = rw none (stores-none entry at end) }
 
-module _ {test : ℕ → Bool} {t from to : ℕ} {earlier later : List ℕ} {at end : ℕ} {earlier′ later′ : List ℕ} {i s : ℕ}
-    (w : Writing test t from to earlier later at end earlier′ later′ i s) (all : end ≡ at + length (chosen test from to)) where
+module _ {test : ℕ → Bool} {from to : ℕ} {entry : List ℕ} {at end : ℕ} {l : List ℕ} {i s : ℕ} (w : Writing test from to entry at end l i s)
+    (all : end ≡ at + length (chosen test from to)) where
   -- Events are left,
   pub writing-inside : i < end → s < to
   writing-inside more = let place = w .place in chosen-more test from s to (omega arith)
 
   -- of which the next one is stored, and stored over if it fails;
   pub writing-more :
-      (b : Bool) → b ≡ test s → i < end → end ≤ length earlier → end ≤ length later
-      → Writing test t from to earlier later at end (set earlier′ i s) (set later′ i t) (i + boolByte b) (s + 1)
-  writing-more true e more room room′ =
+      (b : Bool) → b ≡ test s → i < end → end ≤ length entry → Writing test from to entry at end (set l i s) (i + boolByte b) (s + 1)
+  writing-more b e more room =
       let low = w .low in
       let place = w .place in
-      let grown = chosen-passed test from s low (sym e) in
-      let mapped : map (λ p. t) (chosen test from s ++ (s ∷ [])) ≡ map (λ p. t) (chosen test from s) ++ (t ∷ []) =
-      map-append (λ p. t) (chosen test from s) (s ∷ []) in
-      let place′ : i ≡ at + length (map (λ p. t) (chosen test from s)) = omega (arith, length-map (chosen test from s) (λ p. t)) in
       let inside = writing-inside more in
+      let few = bit-few b in
       record {
         low = omega arith;
         high = omega arith;
-        place = omega (arith, counted-more test from true (length (chosen test from s)) s e low refl);
+        place = omega (arith, counted-more test from b (length (chosen test from s)) s e low refl);
         within = omega arith;
-        in-earlier = rw grown (stores-more (w .in-earlier) i place more room s);
-        in-later = rw (grown, mapped) (stores-more (w .in-later) i place′ more room′ t);
+        held = stored b e;
       }
-  writing-more false e more room room′ =
-      let low = w .low in
-      let place = w .place in
-      let same = chosen-failed test from s low (sym e) in
-      let place′ : i ≡ at + length (map (λ p. t) (chosen test from s)) = omega (arith, length-map (chosen test from s) (λ p. t)) in
-      let inside = writing-inside more in
-      record {
-        low = omega arith;
-        high = omega arith;
-        place = omega (arith, counted-more test from false (length (chosen test from s)) s e low refl);
-        within = omega arith;
-        in-earlier = rw same (stores-spare (w .in-earlier) i place more s);
-        in-later = rw same (stores-spare (w .in-later) i place′ more t);
-      }
+    where
+      stored : (b : Bool) → b ≡ test s → Stores entry at end (chosen test from (s + 1)) (set l i s)
+      stored true e = rw (chosen-passed test from s (w .low) (sym e)) (stores-more (w .held) i (w .place) more room s)
+      stored false e = rw (chosen-failed test from s (w .low) (sym e)) (stores-spare (w .held) i (w .place) more s)
 
   -- and in the end all are stored that pass.
-  pub writing-ends : end ≤ i → (earlier′ ≡ sets earlier at (chosen test from to)) × (later′ ≡ sets later at (map (λ p. t) (chosen test from to)))
+  pub writing-ends : end ≤ i → l ≡ sets entry at (chosen test from to)
   writing-ends done =
       let within = w .within in
       let place = w .place in
-      let full : i ≡ end = omega arith in
       let whole = chosen-all test from s to (w .low) (w .high) (omega arith) in
-      let place′ : i ≡ at + length (map (λ p. t) (chosen test from s)) = omega (arith, length-map (chosen test from s) (λ p. t)) in
-      rw (← whole) (stores-done (w .in-earlier) i place full, stores-done (w .in-later) i place′ full)
+      rw (← whole) (stores-done (w .held) i place (omega arith))
+
+-- A mark is 1 or 0, as its test says: it can be added in place of it.
+bit-of : (v : ℕ) → v ≤ 1 → v ≡ boolByte (eqb v 1)
+bit-of v few = either (same-or-not v 1) (λ e. rw e) (λ d. let none : v ≡ 0 = omega arith in rw none)
+
+pub writing-marked :
+    {test : ℕ → Bool} {from to : ℕ} {entry : List ℕ} {at end : ℕ} {l : List ℕ} {i s : ℕ} (v : ℕ) → Writing test from to entry at end l i s
+    → end ≡ at + length (chosen test from to) → eqb v 1 ≡ test s → v ≤ 1 → i < end → end ≤ length entry
+    → Writing test from to entry at end (set l i s) (i + v) (s + 1)
+writing-marked {test} {from} {to} {entry} {at} {end} {l} {i} {s} v w all e few more room =
+    subst (λ (z : ℕ). Writing test from to entry at end (set l i s) (i + z) (s + 1)) (sym (bit-of v few)) (writing-more w all (eqb v 1) e more room)
+
+-- ---- one value in a row of cells
+
+pub repeated-more :
+    (l out : List ℕ) (at i t : ℕ) → at ≤ i → out ≡ sets l at (replicate (i - at) t) → set out i t ≡ sets l at (replicate (i + 1 - at) t)
+repeated-more l out at i t low e =
+    let grown : i + 1 - at ≡ suc (i - at) = omega arith in
+    let there : at + length (replicate (i - at) t) ≡ i = rw length-replicate (omega arith) in
+    rw (e, grown, replicate-snoc (i - at) t)
+    (sym (sets-append (replicate (i - at) t) (t ∷ []) l at ∙ ap (λ (k : ℕ). set (sets l at (replicate (i - at) t)) k t) there))
+  where
+    replicate-snoc : (k t : ℕ) → replicate (suc k) t ≡ replicate k t ++ (t ∷ [])
+    replicate-snoc zero t = refl
+    replicate-snoc (suc k) t = ap (λ (z : List ℕ). t ∷ z) (replicate-snoc k t)
+
+pub map-replicate : (xs : List ℕ) (t : ℕ) → map (λ s. t) xs ≡ replicate (length xs) t
+map-replicate [] t = refl
+map-replicate (x ∷ xs) t = ap (λ (z : List ℕ). t ∷ z) (map-replicate xs t)

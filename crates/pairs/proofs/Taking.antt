@@ -5,17 +5,21 @@ use mathlib.Core.Path.{_≡_, refl, sym, ap, ap₂, _∙_}
 use mathlib.Core.Bool.{Bool, true, false}
 use mathlib.Core.List.{List, [], _∷_, map}
 use native.Mathlib.Omega.{arith}
-use lib.ListN.{length, getD, length-map}
+use lib.Dec.{eqb}
+use lib.ListN.{length, getD, replicate, length-map}
 use lib.Seq.{sets}
+use mir.Val.{boolByte}
 use Rattle.trace.specs.Trace.{isAccess, LOCATIONS}
 use Rattle.trace.specs.Orders.{chosen}
 use Rattle.trace.proofs.Tests.{tests-false}
 use Rattle.trace.proofs.Lists.{chosen-cut}
 use Rattle.cells.specs.Cells.{NUMBER, numberIn}
+use Rattle.ranks.proofs.Leaves.{bit-few}
 use Rattle.pairs.specs.declared.Access.{Access}
 use Rattle.pairs.specs.Pairs.{CLOSE, Pair, pair, pairsAt, Slices, slices}
-use Rattle.pairs.specs.Close.{raceBy, AccessAt, partnerIn, Readable, Writable, SEEN, stored, written, closeIn, Visitable, Taken}
+use Rattle.pairs.specs.Close.{raceBy, AccessAt, partnerIn, Readable, Marked, isMarked, Writable, SEEN, written, closeIn, Visitable, Taken}
 use Rattle.pairs.proofs.Partners.{partner-is, test-race-by}
+use Rattle.pairs.proofs.Storing.{map-replicate}
 use Rattle.pairs.proofs.PairLists.{chosen-agree}
 
 -- ---- the pairs of t
@@ -62,7 +66,7 @@ module _ {kinds operands c : List ℕ} {write : Bool} {b : Slices} {count t : �
         let h = to-within in
         let e : to + (t - to) ≡ t = omega arith in
         let race : ℕ → Bool = λ s. raceBy kinds operands (numberIn c) s t in
-        chosen-agree (partnerIn kinds operands c a) race from to (λ p less. partner-is kinds operands c t a at access p)
+        chosen-agree (partnerIn kinds operands c a) race from to (λ p low less. partner-is kinds operands c t a at access p)
         ∙ (sym (chosen-cut race from to (t - to) (λ p low far less. none-past p far (omega arith)))
         ∙ ap₂ (λ (x y : ℕ). chosen race x y) begin e)
 
@@ -70,26 +74,39 @@ module _ {kinds operands c : List ℕ} {write : Bool} {b : Slices} {count t : �
     unfolding pairsAt
     partners-length = ap length partners-are ∙ sym (length-map (chosen (λ s. raceBy kinds operands (numberIn c) s t) (t - CLOSE) t) (λ s. pair s t))
 
-    module _ (found end : ℕ) (counted : found ≡ length (chosen (partnerIn kinds operands c a) from to)) (sum : end ≡ count + found) where
-      taken-count : end ≡ count + length (closeIn kinds operands c t)
-      taken-count = let e = partners-length in omega arith
+    module _ (marks : List ℕ) (found end : ℕ) (marked : Marked kinds operands c a from to marks found) (sum : end ≡ count + found) where
+      marked-are : chosen (isMarked marks from) from to ≡ chosen (partnerIn kinds operands c a) from to
+      unfolding isMarked
+      marked-are =
+          chosen-agree (isMarked marks from) (partnerIn kinds operands c a) from to
+          (λ s low less. rw (marked .each s low less) (by-bit (partnerIn kinds operands c a s)))
+        where
+          by-bit : (b : Bool) → eqb (boolByte b) 1 ≡ b
+          by-bit true = refl
+          by-bit false = refl
 
-      pub window-writable : write ≡ true → Writable kinds operands c a t from to b count end
-      window-writable asked =
-          let h = to-within in
-          let inside = v .inside in
-          let few = v .few in
-          let e = taken-count in
-          let room = v .fits .earlier asked in
-          let room′ = v .fits .later asked in
-          record {
-            readable = window-readable .0;
-            few = omega arith;
-            later-few = omega arith;
-            all = omega arith;
-            room-earlier = omega arith;
-            room-later = omega arith;
-          }
+      taken-count : end ≡ count + length (closeIn kinds operands c t)
+      taken-count = let e = partners-length in let counted = marked .counted in omega arith
+
+      module _ (asked : write ≡ true) where
+        pub window-writable : Writable marks from to (b .earlier) count end
+        window-writable =
+            let h = to-within in
+            let inside = v .inside in
+            let few = v .few in
+            let e = taken-count in
+            let room = v .fits .earlier asked in
+            let long = marked .long in
+            record {
+              room-marks = omega (arith, window-readable .1);
+              bits = λ s low less. omega (arith, marked .each s low less, bit-few (partnerIn kinds operands c a s));
+              few = omega arith;
+              all = omega (arith, ap length marked-are, marked .counted);
+              room = omega arith;
+            }
+
+        pub later-writable : (count ≤ end) × (end ≤ length (b .later))
+        later-writable = let e = taken-count in let room = v .fits .later asked in (omega arith, omega arith)
 
       -- The pairs are not asked for,
       pub taken-counted : write ≡ false → Taken kinds operands c write b b count end t
@@ -98,15 +115,14 @@ module _ {kinds operands c : List ℕ} {write : Bool} {b : Slices} {count t : �
 
       -- or they are written.
       pub taken-written :
-          (earlier later : List ℕ) → write ≡ true
-          → (earlier ≡ sets (b .earlier) count (chosen (partnerIn kinds operands c a) from to))
-          × (later ≡ sets (b .later) count (map (λ s. t) (chosen (partnerIn kinds operands c a) from to)))
-          → Taken kinds operands c write b (slices earlier later) count end t
+          (earlier later : List ℕ) → write ≡ true → earlier ≡ sets (b .earlier) count (chosen (isMarked marks from) from to)
+          → later ≡ sets (b .later) count (replicate (end - count) t) → Taken kinds operands c write b (slices earlier later) count end t
       unfolding written pairsAt
-      taken-written earlier later asked wrote =
-          let xs = chosen (λ s. raceBy kinds operands (numberIn c) s t) (t - CLOSE) t in (
+      taken-written earlier later asked one two =
+          let xs = chosen (λ s. raceBy kinds operands (numberIn c) s t) (t - CLOSE) t in
+          let k : end - count ≡ length xs = omega (arith, sum, marked .counted, ap length partners-are) in (
             taken-count,
             rw asked
-                (ap₂ slices (wrote .0 ∙ ap (sets (b .earlier) count) (partners-are ∙ sym (pairs-earlier t xs)))
-                (wrote .1 ∙ ap (sets (b .later) count) (ap (map (λ s. t)) partners-are ∙ sym (pairs-later t xs)))),
+                (ap₂ slices (one ∙ ap (sets (b .earlier) count) (marked-are ∙ (partners-are ∙ sym (pairs-earlier t xs))))
+                (two ∙ ap (sets (b .later) count) (ap (λ (m : ℕ). replicate m t) k ∙ sym (pairs-later t xs ∙ map-replicate xs t)))),
           )

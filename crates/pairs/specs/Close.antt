@@ -1,5 +1,5 @@
 -- Close pairs by numbers, and what the functions leave. In every definition c is the workspace's cells. Assumes nothing.
-use Prim.Native.Nat.{ℕ, _+_, _*_, _<_, _≤_}
+use Prim.Native.Nat.{ℕ, _+_, _-_, _*_, _<_, _≤_}
 use mathlib.Core.Path.{_≡_}
 use mathlib.Core.Bool.{Bool, true, false, _&&_, _||_}
 use mathlib.Core.List.{List, map}
@@ -7,6 +7,7 @@ use mathlib.Core.Logic.{_≢_}
 use lib.Dec.{eqb, ltb}
 use lib.ListN.{length, getD, set}
 use lib.Seq.{sets}
+use mir.Val.{boolByte}
 use Rattle.trace.specs.Trace.{Trace, READ, WRITE, SUM, isAccess, LOCATIONS, MAX-EVENTS}
 use Rattle.trace.specs.Line.{haltOperand, passes, row, lineAfter}
 use Rattle.trace.specs.Race.{conflicting}
@@ -53,14 +54,24 @@ pub record Readable (kinds operands c : List ℕ) (to : ℕ) : Type 0 where
 
 -- ---- one access
 
--- What is asked to write the partners of an access t, from `from` up to `to`, to the cells from `at` up to `end`.
-pub record Writable (kinds operands c : List ℕ) (a : Access) (t from to : ℕ) (b : Slices) (at end : ℕ) : Type 0 where
-  pub readable : Readable kinds operands c to
+-- The partners of an access among the events from `from` up to `to` are marked, and there are so many of them.
+pub record Marked (kinds operands c : List ℕ) (a : Access) (from to : ℕ) (marks : List ℕ) (count : ℕ) : Type 0 where
+  pub long : length marks ≡ CLOSE
+  pub each : (s : ℕ) → from ≤ s → s < to → getD marks (s - from) 0 ≡ boolByte (partnerIn kinds operands c a s)
+  pub counted : count ≡ length (chosen (partnerIn kinds operands c a) from to)
+  pub few : count ≤ CLOSE
+
+-- Event s is marked, where the marks are those of the events from `from` on.
+unfoldable pub isMarked : List ℕ → ℕ → ℕ → Bool
+isMarked marks from s = eqb (getD marks (s - from) 0) 1
+
+-- What is asked to write the marked events up to `to` to the cells from `at` up to `end`.
+pub record Writable (marks : List ℕ) (from to : ℕ) (earlier : List ℕ) (at end : ℕ) : Type 0 where
+  pub room-marks : to ≤ from + length marks
+  pub bits : (s : ℕ) → from ≤ s → s < to → getD marks (s - from) 0 ≤ 1
   pub few : to ≤ MAX-EVENTS
-  pub later-few : t ≤ MAX-EVENTS
-  pub all : end ≡ at + length (chosen (partnerIn kinds operands c a) from to)
-  pub room-earlier : end ≤ length (b .earlier)
-  pub room-later : end ≤ length (b .later)
+  pub all : end ≡ at + length (chosen (isMarked marks from) from to)
+  pub room : end ≤ length earlier
 
 -- For each location a position from which on no access of it stands before event t.
 abbrev pub SEEN : ℕ

@@ -4,9 +4,8 @@
 ghost use mathlib.Core.Path.{_≡_};
 ghost use mathlib.Core.Bool.{true};
 ghost use Prim.Native.Nat.{_+_, _-_, _≤_, _<_};
-ghost use lib.ListN.{length, getD};
+ghost use lib.ListN.{length, getD, replicate};
 ghost use lib.Seq.{sets};
-ghost use mathlib.Core.List.{map};
 ghost use Rattle.trace.specs.Trace.{isAccess, LOCATIONS, WORKSPACE-CELLS};
 ghost use Rattle.trace.specs.Lent.{lentTrace};
 ghost use Rattle.trace.specs.Orders.{chosen};
@@ -15,7 +14,7 @@ ghost use Rattle.trace.proofs.Sizes.{Sized};
 ghost use Rattle.cells.specs.Cells.{Filled, NUMBER};
 ghost use Rattle.pairs.specs.Pairs.{CLOSE, slices, tooShort, listingReply, pairsGives, pairsOutcome};
 ghost use Rattle.pairs.specs.Demands.{PairsDemand1, PairsCallDemand};
-ghost use Rattle.pairs.specs.Close.{AccessAt, conflictsIn, partnerIn, Readable, Writable, SEEN, Visitable, Taken, VisitSays};
+ghost use Rattle.pairs.specs.Close.{AccessAt, conflictsIn, partnerIn, Readable, Marked, isMarked, Writable, SEEN, Visitable, Taken, VisitSays};
 ghost use Rattle.pairs.specs.Close.{Fits, Ready, racing, PassSays, Listable, ListSays, GatherSays};
 use sizes::WORKSPACE_CELLS;
 use trace::LOCATIONS;
@@ -87,55 +86,55 @@ fn is_partner(kinds: &[u8], operands: &[u16], ws: &[u16], access: Access, s: usi
         & (access.number < cells::number(ws, s))
 }
 
-// How many of the events from `from` up to `to`, 256 at most, race with the access. The loop only counts, so that the compiler takes many events at a time.
-fn count_partners(
+// Marks the events from `from` up to `to`, 256 at most, that race with the access: 1 for each that does, 0 for each that does not. Says how many do. No branch
+// depends on an event, so that the compiler takes many at a time.
+fn mark_partners(
     kinds: &[u8],
     operands: &[u16],
     ws: &[u16],
     access: Access,
     from: usize,
     to: usize,
+    marks: &mut [u16],
 ) -> u16
-    requires { ⌜ Readable (now kinds) (now operands) (now ws) to × (to ≤ from + CLOSE) ⌝ }
-    ensures { λ r. ⌜ (r ≡ length (chosen (partnerIn (now (kinds .entry)) (now (operands .entry)) (now (ws .entry)) access) from to)) × (r ≤ CLOSE) ⌝ }
+    requires { ⌜ Readable (now kinds) (now operands) (now ws) to × (to ≤ from + CLOSE) × (length (now marks) ≡ CLOSE) ⌝ }
+    ensures { λ r. ⌜ Marked (now (kinds .entry)) (now (operands .entry)) (now (ws .entry)) access from to (now (marks .exit)) r ⌝ }
 {
     let mut count: u16 = 0;
     let mut s = from;
     while s < to {
-        count += is_partner(kinds, operands, ws, access, s) as u16;
+        let mark = is_partner(kinds, operands, ws, access, s) as u16;
+        marks[s - from] = mark;
+        count += mark;
         s += 1;
     }
     count
 }
 
-// Writes the partners of the access t from cell `at` up to cell `end`: those from `from` on, until all are found. Each event is stored, and the next one over it
-// where it is no partner, which costs less than a branch.
-fn write_partners(
-    kinds: &[u8],
-    operands: &[u16],
-    ws: &[u16],
-    access: Access,
-    t: usize,
-    from: usize,
-    to: usize,
-    earlier: &mut [u16],
-    later: &mut [u16],
-    at: usize,
-    end: usize,
-)
-    requires { ⌜ Writable (now kinds) (now operands) (now ws) access t from to (slices (now earlier) (now later)) at end ⌝ }
-    ensures { λ _. ⌜ now (earlier .exit)
-        ≡ sets (now (earlier .entry)) at (chosen (partnerIn (now (kinds .entry)) (now (operands .entry)) (now (ws .entry)) access) from to) ⌝ }
-    ensures { λ _. ⌜ now (later .exit) ≡ sets (now (later .entry)) at
-        (map (λ s. t) (chosen (partnerIn (now (kinds .entry)) (now (operands .entry)) (now (ws .entry)) access) from to)) ⌝ }
+// Writes the marked events, those from `from` on, from cell `at` up to cell `end`: each event is stored, and the next one over it where it is not marked, which
+// costs less than a branch.
+fn write_earlier(marks: &[u16], from: usize, to: usize, earlier: &mut [u16], at: usize, end: usize)
+    requires { ⌜ Writable (now marks) from to (now earlier) at end ⌝ }
+    ensures { λ _. ⌜ now (earlier .exit) ≡ sets (now (earlier .entry)) at (chosen (isMarked (now (marks .entry)) from) from to) ⌝ }
 {
     let mut i = at;
     let mut s = from;
     while i < end {
         earlier[i] = s as u16;
-        later[i] = t as u16;
-        i += is_partner(kinds, operands, ws, access, s) as usize;
+        i += marks[s - from] as usize;
         s += 1;
+    }
+}
+
+// Writes t to the cells from `at` up to `end`.
+fn write_later(t: u16, later: &mut [u16], at: usize, end: usize)
+    requires { ⌜ (at ≤ end) × (end ≤ length (now later)) ⌝ }
+    ensures { λ _. ⌜ now (later .exit) ≡ sets (now (later .entry)) at (replicate (end - at) t) ⌝ }
+{
+    let mut i = at;
+    while i < end {
+        later[i] = t;
+        i += 1;
     }
 }
 
@@ -168,21 +167,11 @@ fn take_partners(
     let access = access_at(kinds, operands, ws, t);
     let from = window_start(t);
     let to = cells::cell(ws, SEEN, access.location) as usize;
-    let end = count + count_partners(kinds, operands, ws, access, from, to) as usize;
+    let mut marks = [0u16; CLOSE];
+    let end = count + mark_partners(kinds, operands, ws, access, from, to, &mut marks) as usize;
     if write {
-        write_partners(
-            kinds,
-            operands,
-            ws,
-            access,
-            t,
-            from,
-            to,
-            earlier,
-            later,
-            count,
-            end,
-        );
+        write_earlier(&marks, from, to, earlier, count, end);
+        write_later(t as u16, later, count, end);
     }
     end
 }
