@@ -2,7 +2,7 @@
 use Prim.Native.Nat.{ℕ, suc, _+_, _<_, _≤_}
 use mathlib.Core.Path.{_≡_, refl, sym, ap₂, subst, _∙_}
 use mathlib.Core.Bool.{Bool, true, false, true≢false, false≢true, _||_}
-use mathlib.Core.List.{List, [], _∷_, _++_, map}
+use mathlib.Core.List.{List, [], map}
 use mathlib.Core.Logic.{_≢_, inl, inr}
 use native.Mathlib.Omega.{arith}
 use lib.Dec.{ltb}
@@ -30,6 +30,7 @@ use Rattle.scan.proofs.Racing.{numbered-ranked, by-number, of-trace}
 use Rattle.pairs.specs.Pairs.{Pair, closePairs, Slices, slices, holding, tooShort, listChecked, listing}
 use Rattle.pairs.specs.Close.{raceBy, written, Fits, TABLES, Listable, Ready, racing, PassSays, ListSays, GatherSays}
 use Rattle.pairs.proofs.Partners.{test-race-by, race-by-same}
+use Rattle.pairs.proofs.Storing.{no-length}
 use Rattle.pairs.proofs.PairLists.{below-none, below-agree}
 use Rattle.pairs.proofs.Passing.{racing-same, ready-same}
 
@@ -81,10 +82,6 @@ tells-none b = tells-list [] b (none-short b)
 rest-past : {n : ℕ} {entry exit : List ℕ} → SameFrom TABLES entry exit → Rest n entry exit
 rest-past same = rest-beyond (same-beyond (omega arith) same)
 
-none-counted : (list : List Pair) → 0 ≡ length list → list ≡ []
-none-counted [] e = refl
-none-counted (x ∷ list) e = absurd (omega arith)
-
 module _ {kinds operands entry one : List ℕ} {b b₁ : Slices} {count : ℕ} (counted : PassSays kinds operands entry one false b b₁ count) where
   abbrev all : List Pair
   all = racing kinds operands entry (length kinds)
@@ -95,7 +92,7 @@ module _ {kinds operands entry one : List ℕ} {b b₁ : Slices} {count : ℕ} (
 
   pub list-empty : count ≡ 0 → ListSays kinds operands entry one b b₁ (says 0)
   list-empty none =
-      let empty = none-counted all (sym none ∙ counted .counted) in
+      let empty = no-length all (sym (counted .counted) ∙ none) in
       record { rest = rest-past (counted .beyond); told = λ w. rw (slices-left, empty) (tells-none b w) }
 
   module _ (short : Bool) (tested : short ≡ tooShort b₁ count) where

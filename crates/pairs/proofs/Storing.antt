@@ -17,6 +17,10 @@ use Rattle.trace.proofs.Tests.{by-test, either, same-or-not, lt-or-le}
 use Rattle.ranks.proofs.Leaves.{bit-few}
 use Rattle.trace.proofs.Lists.{select-append, countUp-append, chosen-none, chosen-empty, chosen-passed, chosen-failed, sets-append, drop-sets}
 
+pub no-length : {A : Type 0} (l : List A) → length l ≡ 0 → l ≡ []
+no-length [] h = refl
+no-length (x ∷ l) h = absurd (omega arith)
+
 -- ---- stretches
 
 module _ (test : ℕ → Bool) (from : ℕ) where
@@ -48,10 +52,6 @@ module _ (test : ℕ → Bool) (from : ℕ) where
       let none : chosen test s (s + (to - s)) ≡ [] =
       no-length _ (omega (arith, ap length whole, length-append (chosen test from s) (chosen test s (s + (to - s))))) in
       sym (whole ∙ (ap (λ (l : List ℕ). chosen test from s ++ l) none ∙ append-nil (chosen test from s))))
-    where
-      no-length : (l : List ℕ) → length l ≡ 0 → l ≡ []
-      no-length [] h = refl
-      no-length (x ∷ l) h = absurd (omega arith)
 
   -- Where fewer are found than there are, the end is not reached.
   pub chosen-more : (s to : ℕ) → length (chosen test from s) < length (chosen test from to) → s < to

@@ -12,15 +12,15 @@ use mir.Val.{boolByte}
 use Rattle.trace.specs.Trace.{isAccess, LOCATIONS}
 use Rattle.trace.specs.Orders.{chosen}
 use Rattle.trace.proofs.Tests.{tests-false}
-use Rattle.trace.proofs.Lists.{chosen-cut}
+use Rattle.trace.proofs.Lists.{chosen-empty, chosen-cut}
 use Rattle.cells.specs.Cells.{NUMBER, numberIn}
 use Rattle.ranks.proofs.Leaves.{bit-few}
 use Rattle.pairs.specs.declared.Access.{Access}
 use Rattle.pairs.specs.Pairs.{CLOSE, Pair, pair, pairsAt, Slices, slices}
 use Rattle.pairs.specs.Close.{raceBy, AccessAt, partnerIn, Readable, Marked, isMarked, Writable, SEEN, written, closeIn, Visitable, Taken}
 use Rattle.pairs.proofs.Partners.{partner-is, test-race-by}
-use Rattle.pairs.proofs.Storing.{map-replicate}
-use Rattle.pairs.proofs.PairLists.{chosen-agree}
+use Rattle.pairs.proofs.Storing.{no-length, map-replicate}
+use Rattle.pairs.proofs.PairLists.{chosen-agree, written-none}
 
 -- ---- the pairs of t
 
@@ -73,6 +73,13 @@ module _ {kinds operands c : List ℕ} {write : Bool} {b : Slices} {count t : �
     partners-length : length (chosen (partnerIn kinds operands c a) from to) ≡ length (closeIn kinds operands c t)
     unfolding pairsAt
     partners-length = ap length partners-are ∙ sym (length-map (chosen (λ s. raceBy kinds operands (numberIn c) s t) (t - CLOSE) t) (λ s. pair s t))
+
+    -- It may be empty.
+    pub taken-none : to ≤ from → Taken kinds operands c write b b count count t
+    taken-none empty =
+        let none : closeIn kinds operands c t ≡ [] =
+        no-length (closeIn kinds operands c t) (omega (arith, partners-length, ap length (chosen-empty (partnerIn kinds operands c a) from to empty))) in
+        rw none (omega arith, written-none write count b)
 
     module _ (marks : List ℕ) (found end : ℕ) (marked : Marked kinds operands c a from to marks found) (sum : end ≡ count + found) where
       marked-are : chosen (isMarked marks from) from to ≡ chosen (partnerIn kinds operands c a) from to

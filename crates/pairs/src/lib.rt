@@ -167,6 +167,9 @@ fn take_partners(
     let access = access_at(kinds, operands, ws, t);
     let from = window_start(t);
     let to = cells::cell(ws, SEEN, access.location) as usize;
+    if to <= from {
+        return count;
+    }
     let mut marks = [0u16; CLOSE];
     let end = count + mark_partners(kinds, operands, ws, access, from, to, &mut marks) as usize;
     if write {
