@@ -1,7 +1,7 @@
 //! Builds the peers in C that the programs link: the two judges, under the names `twoorders_*` and
-//! `unionfind_*`, the plan reader, the conversion, the pass for cards and the floor. Where
-//! RACEJUDGE_BEFORE names an archive of an older judge, that is linked too, under the names
-//! `before_*`. Without the feature `linked` nothing is built.
+//! `unionfind_*`, the call for pairs, the plan reader, the conversion, the pass for cards and the
+//! floor. Where RACEJUDGE_BEFORE names an archive of an older judge, that is linked too, under the
+//! names `before_*`. Without the feature `linked` nothing is built.
 //!
 //! Each function's section is set to start at a multiple of 64 bytes, as `start` does for the judge
 //! that is measured: then what else a program holds does not move the hot loops, and times repeat
@@ -11,11 +11,13 @@ use std::env;
 use std::path::{Path, PathBuf};
 use std::process::Command;
 
-const PEERS: [&str; 6] = ["twoorders", "unionfind", "planread", "resume", "pass", "floor"];
-const SHARED: [&str; 4] = ["src/peer.h", "src/answer.h", "src/hints.h", "src/kinds.h"];
+const PEERS: [&str; 7] = ["twoorders", "unionfind", "pairs", "planread", "resume", "pass", "floor"];
+const SHARED: [&str; 5] =
+    ["src/ranks.h", "src/peer.h", "src/answer.h", "src/hints.h", "src/kinds.h"];
 const INCLUDE: &str = "../include";
 const HEADER: &str = "../include/racejudge.h";
-const CALLS: [&str; 6] = ["judge", "judge_cards", "ordering", "translate", "plan", "convert"];
+const CALLS: [&str; 7] =
+    ["judge", "judge_cards", "pairs", "ordering", "translate", "plan", "convert"];
 const ALIGNED: [&str; 2] = ["--set-section-alignment", ".text*=64"];
 
 fn main() {

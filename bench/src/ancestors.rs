@@ -131,9 +131,30 @@ impl Ancestors {
         }
     }
 
-    /// Whether p reaches q, for p at most q.
-    fn reaches(&self, p: usize, q: usize) -> bool {
+    /// Stores all events; or the row that the first of them meets that breaks a rule, and its position.
+    /// Races do not stop it.
+    pub fn store_all(&mut self, trace: &Trace) -> Result<(), (usize, usize)> {
+        self.make_room(trace.len());
+        let mut walk = Walk::start(self.halts);
+        for p in 0..trace.len() {
+            let starts = walk.step(trace, p).map_err(|row| (row, p))?;
+            self.store(p, starts);
+        }
+        Ok(())
+    }
+
+    /// Whether p reaches q, both stored, for p at most q.
+    pub fn reaches(&self, p: usize, q: usize) -> bool {
         self.rows[q * self.stride + p / 64] >> (p % 64) & 1 == 1
+    }
+
+    /// Whether two events are accesses that conflict, s before t.
+    pub fn conflict(&self, trace: &Trace, s: usize, t: usize) -> bool {
+        let [one, other] = [s, t].map(|p| trace.kinds[p]);
+        trace.operands[s] == trace.operands[t]
+            && is_access(one)
+            && is_access(other)
+            && (self.conflict)(one, other)
     }
 
     /// Events in position order: each held to the rules, then to the race test.
@@ -161,13 +182,8 @@ impl Ancestors {
 
     /// The whole trace must keep the line rules; races do not stop it. Row 13 comes last.
     fn ordering_answer(&mut self, trace: &Trace, p: usize, q: usize) -> Ordering {
-        self.make_room(trace.len());
-        let mut walk = Walk::start(self.halts);
-        for t in 0..trace.len() {
-            match walk.step(trace, t) {
-                Ok(starts) => self.store(t, starts),
-                Err(row) => return Ordering::Refused(row, t),
-            }
+        if let Err((row, position)) = self.store_all(trace) {
+            return Ordering::Refused(row, position);
         }
         if p >= trace.len() || q >= trace.len() {
             return Ordering::Refused(13, 0);

@@ -1,10 +1,10 @@
-//! The linked judges, readers and conversions: the library, by its bindings, and the peers in C. This
-//! module alone knows the form in which an answer comes back: all others compare a `Told` with that of
-//! the answer that they want, or turn it into one.
+//! The linked judges, calls for pairs, readers and conversions: the library, by its bindings, and the
+//! peers in C. This module alone knows the form in which an answer comes back: all others compare a
+//! `Told` with that of the answer that they want, or turn it into one.
 
 use crate::trace::*;
 pub use racejudge::raw::Told;
-use racejudge::raw::{self, JudgeCall, OrderingCall};
+use racejudge::raw::{self, JudgeCall, OrderingCall, PairsCall};
 /// A card, as it stands in a lent slice.
 pub use racejudge::Card as Record;
 
@@ -15,6 +15,7 @@ racejudge::foreign!(judge fn twoorders_judge);
 racejudge::foreign!(judge fn unionfind_judge);
 racejudge::foreign!(ordering fn twoorders_ordering);
 racejudge::foreign!(ordering fn unionfind_ordering);
+racejudge::foreign!(pairs fn pairs_list);
 racejudge::foreign!(translate fn planread_plan);
 racejudge::foreign!(convert fn resume_convert);
 #[cfg(before)]
@@ -52,6 +53,15 @@ impl From<Ordering> for Told<2> {
             Ordering::No => told(raw::NO, [0, 0]),
             Ordering::Yes => told(raw::YES, [0, 0]),
             Ordering::Refused(number, position) => told(raw::REFUSED, [number, position]),
+        }
+    }
+}
+
+impl From<Listing> for Told<2> {
+    fn from(answer: Listing) -> Self {
+        match answer {
+            Listing::Pairs(k) => told(raw::LISTED, [k, 0]),
+            Listing::Refused(number, position) => told(raw::REFUSED, [number, position]),
         }
     }
 }
@@ -161,6 +171,31 @@ impl Judge {
     pub fn ordering(&self, trace: &Trace, workspace: &mut [u16], p: usize, q: usize) -> Told<2> {
         let Trace { kinds, tasks, operands } = trace;
         unsafe { raw::ordering_by(self.ordering, kinds, tasks, operands, workspace, p, q) }
+    }
+}
+
+/// One linked call for pairs.
+pub struct Lister {
+    pub name: &'static str,
+    list: PairsCall,
+}
+
+/// The library's.
+pub const LISTER: Lister = Lister { name: "the library, pairs", list: raw::racejudge_pairs };
+
+pub const LISTER_C: Lister = Lister { name: "pairs C", list: pairs_list };
+
+impl Lister {
+    /// Safe, as for a judge.
+    pub fn list(
+        &self,
+        trace: &Trace,
+        workspace: &mut [u16],
+        earlier: &mut [u16],
+        later: &mut [u16],
+    ) -> Told<2> {
+        let Trace { kinds, tasks, operands } = trace;
+        unsafe { raw::pairs_by(self.list, kinds, tasks, operands, workspace, earlier, later) }
     }
 }
 

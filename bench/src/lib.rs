@@ -2,12 +2,12 @@
 //!
 //! Reading order: `trace` (what goes in and comes out), `line`, `ancestors`, `cards` and `joins` (the
 //! slow judge, written from document 01 and the owner's sentences alone), `sight` (what the answers
-//! are about: what reads see), `convert` (the slow conversion of stored traces), `text` (the text
-//! form), `plan` and `grammar` (plans, and which texts are some), `ffi` (the linked judges, readers
-//! and conversions), `twoorders.c`, `unionfind.c`, `fasttrack`, `pass.c`, `planread.c` and `resume.c`
-//! (the peers), `rng`, `builder`, `workloads`, `samples` and `shapes` (the traces and the plans),
-//! `extent` (how near a trace comes to the limits), `program` and `words` (input, output and command
-//! lines).
+//! are about: what reads see), `pairs` (the slow list of close pairs), `convert` (the slow conversion
+//! of stored traces), `text` (the text form), `plan` and `grammar` (plans, and which texts are some),
+//! `ffi` (the linked judges, calls for pairs, readers and conversions), `twoorders.c`, `unionfind.c`,
+//! `fasttrack`, `pass.c`, `pairs.c`, `planread.c` and `resume.c` (the peers), `rng`, `builder`,
+//! `workloads`, `samples` and `shapes` (the traces and the plans), `extent` (how near a trace comes to
+//! the limits), `program` and `words` (input, output and command lines).
 
 pub mod ancestors;
 pub mod builder;
@@ -20,6 +20,7 @@ pub mod ffi;
 pub mod grammar;
 pub mod joins;
 pub mod line;
+pub mod pairs;
 pub mod plan;
 pub mod program;
 pub mod rng;

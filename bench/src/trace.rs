@@ -33,6 +33,13 @@ pub const WORKSPACE: usize = 12_288;
 /// its top.
 pub const MAX_LINKS: usize = 10;
 
+/// Two positions are close if they are no farther apart.
+pub const CLOSE: usize = 256;
+
+/// A trace can have no more close pairs: each event with the 256 before it, the first ones with as many
+/// as there are.
+pub const MAX_PAIRS: usize = CLOSE * MAX_EVENTS - CLOSE * (CLOSE + 1) / 2;
+
 /// The first and last position on the card of a location that no event touches.
 pub const NOWHERE: u16 = 65_535;
 
@@ -146,6 +153,15 @@ pub const UNTOUCHED: Card = Card { reads: 0, writes: 0, sums: 0, first: NOWHERE,
 pub enum Ordering {
     No,
     Yes,
+    /// The number and the position.
+    Refused(usize, usize),
+}
+
+/// What the call for pairs says.
+#[derive(Clone, Copy, Debug, PartialEq, Eq)]
+pub enum Listing {
+    /// The number of close pairs.
+    Pairs(usize),
     /// The number and the position.
     Refused(usize, usize),
 }

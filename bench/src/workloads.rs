@@ -4,6 +4,7 @@
 use crate::builder::Builder;
 use crate::rng::Rng;
 use crate::trace::*;
+use std::ops::RangeInclusive;
 
 /// Makes a trace of so many events.
 pub type Make = fn(usize, &mut Rng) -> Trace;
@@ -37,6 +38,26 @@ pub const WORKLOADS: [Workload; 12] = [
     racing("race at the end, late partner", late_race_late_partner, |n| Answer::Race(n - 3, n - 1)),
     racing("race at event 3", early_race, |_| Answer::Race(1, 3)),
     clean("no events", |_, _| Trace::default()),
+];
+
+/// A workload for the call for pairs alone: the judge stops at its first race.
+pub struct Racing {
+    pub name: &'static str,
+    pub make: Make,
+    /// How many close pairs there must be in a trace of so many events.
+    pub pairs: fn(usize) -> RangeInclusive<usize>,
+}
+
+pub const RACING: [Racing; 5] = [
+    Racing { name: "16 races, far between", make: few_races, pairs: |_| RACES..=RACES },
+    Racing { name: "partners too far, 1,024 locations", make: far_partners, pairs: |_| 0..=0 },
+    Racing {
+        name: "random races, 1,024 locations",
+        make: random_races,
+        pairs: |n| n / 512..=n / 8,
+    },
+    Racing { name: "most close events are partners", make: dense, pairs: |n| 160 * n..=CLOSE * n },
+    Racing { name: "half of them are", make: half_dense, pairs: |n| 80 * n..=CLOSE / 2 * n },
 ];
 
 /// Two workloads that differ in who joins whom and when: with as many events of each kind, and with
@@ -191,11 +212,21 @@ fn touch_own(b: &mut Builder, rng: &mut Rng, own: &[u16], times: usize) {
 
 /// The running task touches all locations again and again, up to n events.
 fn sweep_up_to(b: &mut Builder, rng: &mut Rng, n: usize) {
+    let mut next = in_turn(rng);
+    touch_up_to(b, rng, n, &mut next);
+}
+
+/// All locations in any order, again and again.
+fn in_turn(rng: &mut Rng) -> impl Iterator<Item = u16> {
     let mut order: Vec<u16> = (0..LOCATIONS as u16).collect();
     rng.shuffle(&mut order);
-    let mut next = order.iter().cycle();
+    order.into_iter().cycle()
+}
+
+/// The running task touches these, up to n events.
+fn touch_up_to(b: &mut Builder, rng: &mut Rng, n: usize, next: &mut impl Iterator<Item = u16>) {
     while b.trace.len() < n {
-        b.touch(rng, *next.next().expect("a cycle has no end"));
+        b.touch(rng, next.next().expect("a cycle has no end"));
     }
 }
 
@@ -347,13 +378,21 @@ fn random_clean(
 ) {
     let reserve = b.numbers_left() - forks.min(b.numbers_left());
     while b.trace.len() < n {
-        match rng.below(96) {
-            0..=2 if b.numbers_left() > reserve => b.fork(),
-            3..=5 if b.depth() > 1 => b.halt(),
-            6..=11 if b.halted() > unjoined => b.join(),
-            _ => random_access(b, rng, locations),
+        if !random_move(b, rng, reserve, unjoined) {
+            random_access(b, rng, locations);
         }
     }
+}
+
+/// A fork, a halt or a join, in some cases of many.
+fn random_move(b: &mut Builder, rng: &mut Rng, reserve: usize, unjoined: usize) -> bool {
+    match rng.below(96) {
+        0..=2 if b.numbers_left() > reserve => b.fork(),
+        3..=5 if b.depth() > 1 => b.halt(),
+        6..=11 if b.halted() > unjoined => b.join(),
+        _ => return false,
+    }
+    true
 }
 
 /// An access that does not race, if a few tries find one.
@@ -425,5 +464,74 @@ fn early_race(n: usize, rng: &mut Rng) -> Trace {
     b.halt();
     b.write(1023);
     random_clean(&mut b, rng, n, children(n) - 1, LOCATIONS - 1, 0);
+    b.trace
+}
+
+/// So many races, each at a location of its own.
+const RACES: usize = 16;
+
+/// Random forks, halts and joins, and accesses that do not race; now and then a child and its parent,
+/// who joins it then, write a location that no other touches.
+fn few_races(n: usize, rng: &mut Rng) -> Trace {
+    let mut b = Builder::shuffled(rng);
+    let (forks, locations) = ((children(n) - RACES) / RACES, LOCATIONS - RACES);
+    for race in 0..RACES {
+        random_clean(&mut b, rng, n / RACES * (race + 1) - 5, forks, locations, 0);
+        let l = (locations + race) as u16;
+        b.fork();
+        b.write(l);
+        b.halt();
+        b.write(l);
+        b.join();
+    }
+    b.trace
+}
+
+/// A child and its parent go over all locations, the one where the other has stopped: each is touched
+/// again 1,024 accesses later.
+fn far_partners(n: usize, rng: &mut Rng) -> Trace {
+    let mut b = Builder::default();
+    let mut next = in_turn(rng);
+    b.fork();
+    touch_up_to(&mut b, rng, n / 2, &mut next);
+    b.halt();
+    touch_up_to(&mut b, rng, n, &mut next);
+    b.trace
+}
+
+/// Random forks, halts and joins, and random accesses, whether they race or not.
+fn random_races(n: usize, rng: &mut Rng) -> Trace {
+    let mut b = Builder::shuffled(rng);
+    while b.trace.len() < n {
+        if !random_move(&mut b, rng, 0, 0) {
+            touch_one(&mut b, rng, 0, LOCATIONS);
+        }
+    }
+    b.trace
+}
+
+/// As many pairs as we can make: 7,157,923 of 32,768 events.
+pub fn dense(n: usize, rng: &mut Rng) -> Trace {
+    nest(n, rng, 1)
+}
+
+fn half_dense(n: usize, rng: &mut Rng) -> Trace {
+    nest(n, rng, 2)
+}
+
+/// Tasks are forked one in the other. Then each in turn, from the innermost on, writes some of the
+/// locations and halts: no task is ordered with another. More tasks would need more moves, and fewer
+/// have longer turns, in which accesses are ordered.
+fn nest(n: usize, rng: &mut Rng, locations: usize) -> Trace {
+    let mut b = Builder::default();
+    let forks = n * 13 / 512;
+    (0..forks).for_each(|_| b.fork());
+    for turn in 1..=forks + 1 {
+        let end = forks + (n - forks) * turn / (forks + 1);
+        while b.trace.len() + usize::from(b.depth() > 1) < end {
+            b.write(rng.cell(locations));
+        }
+        b.halt_down_to(forks + 1 - turn.min(forks));
+    }
     b.trace
 }

@@ -9,8 +9,8 @@ use std::process::Command;
 const INSTEAD: &str =
     "or set RACEJUDGE_LIB to the path of an archive with the functions of include/racejudge.h";
 
-/// The call that archives of older versions lack. They hold halts to another rule.
-const NEWEST: &str = "racejudge_convert";
+/// The call that archives of older versions lack.
+const NEWEST: &str = "racejudge_pairs";
 
 fn main() {
     println!("cargo::rerun-if-changed=build.rs");

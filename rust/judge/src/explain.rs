@@ -10,6 +10,7 @@ mod misfit;
 mod misread;
 mod order;
 mod page;
+mod pairs;
 mod plan;
 mod race;
 mod refusal;
@@ -22,10 +23,11 @@ pub use refusal::{Reason, Refused};
 use crate::cards::Cards;
 use crate::phrases::{clean_before, count, has_sums};
 use crate::recording::Recording;
-use crate::study::{Converted, Planned, Question, Scene, Study};
+use crate::study::{Converted, Listed, Planned, Question, Scene, Study};
 use page::Page;
 use race::Race;
-use racejudge::{Trace, Verdict, MAX_LINKS};
+use racejudge::{Pair, Trace, Verdict, MAX_LINKS};
+use std::io::{self, Write};
 
 /// The proved answer's line, and what it means. The orders of a race are shown whole where that is
 /// wanted.
@@ -156,6 +158,41 @@ pub fn counted(study: &Study, busiest: bool) -> String {
     page.add(&study.line());
     cards::tell(&mut page, &cards);
     page.text()
+}
+
+/// The proved answer's line, and the close pairs in groups, of each the first or all; it is printed as it
+/// is made.
+pub fn listed(listed: &Listed, all: bool, out: &mut dyn Write) -> io::Result<()> {
+    let mut page = Page::default();
+    page.add(&listed.line());
+    match (&listed.answer, &listed.study.scene) {
+        (Ok(list), Some(scene)) if list.len() > 0 => {
+            out.write_all(page.text().as_bytes())?;
+            return pairs::tell(out, listed, scene, list, all);
+        }
+        (Ok(_), Some(scene)) => pairs::none(&mut page, listed, scene),
+        (Err(refusal), scene) => {
+            let refused = Refused::of(listed.study.recording, scene.as_ref(), refusal);
+            refused.tell(&mut page, refusal);
+            if let Refused::Event(_, p) = refused {
+                page.say(&before_refused(listed, p));
+                counting(&mut page, listed.study.recording);
+            }
+        }
+        (Ok(_), None) => {}
+    }
+    out.write_all(page.text().as_bytes())
+}
+
+/// What is known of the events before one for which the list is refused.
+fn before_refused(listed: &Listed, p: usize) -> String {
+    match listed.first_race() {
+        Some(Pair { s, t }) => format!(
+            "Pairs are listed where the whole trace keeps the rules. Before event {p} there is a race, \
+             of events {s} and {t}: `judge FILE` explains it."
+        ),
+        None => format!("{} Nothing is said of what follows.", clean_before(p)),
+    }
 }
 
 /// The proved answer's line, and how far the trace was brought over.

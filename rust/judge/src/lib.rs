@@ -2,9 +2,9 @@
 //! said. What the library says is printed as it is; nothing else here has to be believed.
 //!
 //! Reading order: `words` (the command line), `recording`, `schedule` and `standard` (traces and plans
-//! that are read, and what is written), `answer`, `graph`, `why`, `study` and `cards` (what is known of
-//! a trace), `phrases` and `explain` (the words for people), `json` and `objects` (the same for
-//! programs), `svg` (the picture).
+//! that are read, and what is written), `answer`, `graph`, `why`, `study`, `cards` and `groups` (what is
+//! known of a trace), `phrases` and `explain` (the words for people), `json` and `objects` (the same
+//! for programs), `svg` (the picture).
 
 #![deny(unsafe_code)]
 
@@ -13,6 +13,7 @@ mod arguments;
 pub mod cards;
 pub mod explain;
 pub mod graph;
+pub mod groups;
 pub mod json;
 pub mod objects;
 pub mod phrases;

@@ -3,13 +3,15 @@
 use crate::answer::Answer;
 use crate::cards::{Cards, Touched, COUNTS};
 use crate::explain::{Misread, Reason, Refused};
+use crate::groups::{Group, Groups};
 use crate::json::Json;
 use crate::recording::Recording;
-use crate::study::{Clash, Converted, Planned, Question, Scene, Study};
+use crate::study::{Clash, Converted, Listed, Planned, Question, Scene, Study};
 use crate::why::Why;
 use crate::words::Picture;
-use racejudge::{Conversion, Leaf, Refusal, Verdict};
+use racejudge::{Conversion, Leaf, Pair, Refusal, Verdict, CLOSE};
 use std::ffi::OsStr;
+use std::io::{self, Write};
 
 type Fields = Vec<(&'static str, Json)>;
 
@@ -70,6 +72,78 @@ pub fn counted(file: &OsStr, study: &Study, busiest: bool) -> String {
         fields.push(("cards", cards.into()));
     }
     line(file, fields)
+}
+
+/// A file whose close pairs are listed. The pairs stand last, and are printed as they are made: there may
+/// be millions.
+pub fn listed(
+    file: &OsStr,
+    listed: &Listed,
+    picture: &Picture,
+    out: &mut dyn Write,
+) -> io::Result<()> {
+    let scene = listed.study.scene.as_ref();
+    let mut fields = head(listed.line(), scene);
+    let (Ok(pairs), Some(scene)) = (&listed.answer, scene) else {
+        if let Err(refusal) = &listed.answer {
+            fields.extend(refused(listed.study.recording, scene, refusal));
+        }
+        fields.extend(drawn(picture));
+        return out.write_all(line(file, fields).as_bytes());
+    };
+    fields.extend(grouped(scene, listed, &Groups::of(scene, pairs.clone(), 0)));
+    fields.extend(drawn(picture));
+    let object = line(file, fields);
+    write!(out, "{},\"pairs\":[", object.strip_suffix("}\n").unwrap_or(&object))?;
+    for (place, it) in pairs.clone().enumerate() {
+        write!(out, "{}{}", if place > 0 { "," } else { "" }, pair(scene, it))?;
+    }
+    out.write_all(b"]}\n")
+}
+
+/// How many pairs there are, what they come down to, and the first race of the trace.
+fn grouped(scene: &Scene, listed: &Listed, groups: &Groups) -> Fields {
+    vec![
+        ("count", groups.pairs().into()),
+        ("locations", groups.locations().into()),
+        ("sources", groups.sources().into()),
+        ("groups", groups.0.iter().map(group).collect::<Vec<Json>>().into()),
+        ("race", listed.first_race().map(|it| first_race(scene, it)).into()),
+    ]
+}
+
+fn group(group: &Group) -> Json {
+    let kinds = group.ends.kinds().map(|kinds| kinds.map(|kind| kind.to_string()).to_vec());
+    Json::Object(vec![
+        ("location", group.location.into()),
+        ("sources", group.ends.sources().map(Vec::from).into()),
+        ("kinds", kinds.into()),
+        ("tasks", group.tasks.clone().into()),
+        ("count", group.count.into()),
+    ])
+}
+
+fn first_race(scene: &Scene, Pair { s, t }: Pair) -> Json {
+    Json::Object(vec![
+        ("location", scene.trace.event(t).map(|event| event.operand).into()),
+        ("s", event(scene, s)),
+        ("t", event(scene, t)),
+        ("close", (t - s <= CLOSE).into()),
+    ])
+}
+
+fn pair(scene: &Scene, Pair { s, t }: Pair) -> Json {
+    let line = |p: usize| scene.place(p).map(|place| place.line).into();
+    let source = |p: usize| scene.place(p).map(|place| place.source).into();
+    Json::Object(vec![
+        ("s", s.into()),
+        ("t", t.into()),
+        ("location", scene.trace.event(t).map(|event| event.operand).into()),
+        ("s_line", line(s)),
+        ("t_line", line(t)),
+        ("s_source", source(s)),
+        ("t_source", source(t)),
+    ])
 }
 
 /// An answer to a question.

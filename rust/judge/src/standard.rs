@@ -3,7 +3,7 @@
 
 use std::ffi::OsStr;
 use std::fs::{self, File, Metadata};
-use std::io::{self, Error, Write};
+use std::io::{self, BufWriter, Error, Write};
 use std::mem::ManuallyDrop;
 use std::os::fd::FromRawFd;
 use std::os::unix::fs::MetadataExt;
@@ -100,6 +100,14 @@ pub fn is_same(one: &Metadata, other: &Metadata) -> bool {
 /// Writes to standard output at once.
 pub fn print(text: &str) -> io::Result<()> {
     standard(OUTPUT)?.write_all(text.as_bytes())
+}
+
+/// Writes to standard output what is made piece by piece.
+pub fn print_pieces(write: impl FnOnce(&mut dyn Write) -> io::Result<()>) -> io::Result<()> {
+    let output = standard(OUTPUT)?;
+    let mut pieces = BufWriter::new(&*output);
+    write(&mut pieces)?;
+    pieces.flush()
 }
 
 /// Tells something on standard error. Where that fails too, the status alone can tell.

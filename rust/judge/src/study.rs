@@ -6,7 +6,9 @@ use crate::phrases::place;
 use crate::recording::Recording;
 use crate::schedule::Schedule;
 use crate::why::Why;
-use racejudge::{reaches, Conversion, Kind, Leaf, Node, Place, Plan, Refusal, Trace, Verdict};
+use racejudge::{
+    reaches, Conversion, Kind, Leaf, Node, Pair, Pairs, Place, Plan, Refusal, Trace, Verdict, CLOSE,
+};
 
 /// A trace, its graph as far as it keeps the rules, and where it was recorded.
 pub struct Scene<'a> {
@@ -103,6 +105,48 @@ impl<'a> Clash<'a> {
     fn of(plan: &'a Plan, s: usize, t: usize) -> Option<Self> {
         let (s, t) = (plan.leaf_of(s)?, plan.leaf_of(t)?);
         Some(Clash { s, t, meet: plan.meet(s, t)? })
+    }
+}
+
+/// A recording whose close pairs are listed.
+pub struct Listed<'a> {
+    pub answer: Result<Pairs, Refusal>,
+    /// What the judge says of it: it knows of races that are farther apart.
+    pub study: Study<'a>,
+    /// What it comes to: the refusal of the list, or else the judge's verdict.
+    pub verdict: Answer,
+}
+
+impl<'a> Listed<'a> {
+    pub fn new(recording: &'a Recording) -> Self {
+        let trace = recording.trace.as_ref().map_err(|refusal| *refusal);
+        let (answer, study) = (trace.and_then(racejudge::pairs), Study::new(recording));
+        let verdict = match &answer {
+            Ok(_) => study.answer.clone(),
+            Err(refusal) => Err(*refusal),
+        };
+        Listed { answer, study, verdict }
+    }
+
+    /// The proved answer's own line.
+    pub fn line(&self) -> String {
+        match &self.answer {
+            Ok(pairs) => format!("pairs {}", pairs.len()),
+            Err(refusal) => answer::refused(refusal),
+        }
+    }
+
+    /// The first race of the trace, by the judge.
+    pub fn first_race(&self) -> Option<Pair> {
+        match self.study.answer {
+            Ok(Verdict::Race { s, t, .. }) => Some(Pair { s, t }),
+            _ => None,
+        }
+    }
+
+    /// The same where it is too far apart to be listed.
+    pub fn far_race(&self) -> Option<Pair> {
+        self.first_race().filter(|Pair { s, t }| t - s > CLOSE)
     }
 }
 

@@ -1,8 +1,8 @@
 //! The picture of a run: what ran beside what, which two accesses race, why nothing orders them.
 //!
-//! `story` and `words` know what is to be told, `choice` which events and tasks are drawn, `layout`
-//! where they stand, `lines` what runs between them, and `strips` a plan beside them. `page`, `figure` and `legend` put it on a
-//! `canvas`, which writes SVG.
+//! `story`, `listing` and `words` know what is to be told, `choice` which events and tasks are drawn,
+//! `layout` where they stand, `lines` what runs between them, and `strips` a plan beside them. `page`,
+//! `figure` and `legend` put it on a `canvas`, which writes SVG.
 
 mod canvas;
 mod choice;
@@ -10,6 +10,7 @@ mod figure;
 mod layout;
 mod legend;
 mod lines;
+mod listing;
 mod page;
 mod story;
 mod strips;
@@ -19,7 +20,7 @@ mod words;
 
 use crate::answer::Answer;
 use crate::graph::Graph;
-use crate::study::Planned;
+use crate::study::{Listed, Planned};
 use crate::why::Why;
 use racejudge::Trace;
 
@@ -40,5 +41,12 @@ pub fn draw(
 /// Draws a plan, and its run in the same rows. None where there is no plan.
 pub fn draw_plan(planned: &Planned, title: &str) -> Option<String> {
     let story = story::Story::of_plan(planned)?;
+    Some(page::page(&story, &choice::Choice::new(&story), title))
+}
+
+/// Draws the run with every access marked that is of a close pair. Where there is none, what the judge
+/// says is drawn. None where there is no trace.
+pub fn draw_pairs(listed: &Listed, title: &str) -> Option<String> {
+    let story = story::Story::of_pairs(listed)?;
     Some(page::page(&story, &choice::Choice::new(&story), title))
 }

@@ -5,6 +5,7 @@ mod convert;
 mod files;
 mod judge;
 mod order;
+mod pairs;
 mod picture;
 mod plan;
 
@@ -77,7 +78,8 @@ struct Word {
 }
 
 /// The first is run where no word is given.
-const WORDS: [Word; 5] = [judge::WORD, order::WORD, cards::WORD, plan::WORD, convert::WORD];
+const WORDS: [Word; 6] =
+    [judge::WORD, order::WORD, cards::WORD, pairs::WORD, plan::WORD, convert::WORD];
 
 const JSON: &str = "--json";
 const SVG: &str = "--svg";

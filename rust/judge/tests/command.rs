@@ -141,6 +141,18 @@ fn a_wrong_command_line_is_told() {
     wrong_usage(&["cards", "--links", text], "there is no option --links");
     wrong_usage(&["cards", "--svg", &picture, text], "there is no option --svg");
     wrong_usage(&["--busiest", text], "there is no option --busiest");
+    wrong_usage(&["pairs"], "no file is given");
+    wrong_usage(&["pairs", "--all", "--json"], "no file is given");
+    wrong_usage(&["pairs", "-", "/dev/stdin"], twice);
+    wrong_usage(&["pairs", "--orders", text], "there is no option --orders");
+    wrong_usage(&["pairs", "--links", text], "there is no option --links");
+    wrong_usage(&["pairs", text, "--svg"], "--svg needs a value behind it");
+    wrong_usage(&["pairs", "--svg", &picture, "-"], no_input);
+    wrong_usage(
+        &["pairs", "--svg", &picture, text, text],
+        "--svg draws one file, and more are given",
+    );
+    wrong_usage(&["--all", text], "there is no option --all");
     wrong_usage(&["plan"], "no file is given");
     wrong_usage(&["plan", "--links", text], "there is no option --links");
     wrong_usage(&["plan", "-", "/dev/stdin"], twice);
@@ -152,6 +164,7 @@ fn a_wrong_command_line_is_told() {
     );
     let over = "--svg would write over the file that is to be judged";
     wrong_usage(&["plan", "--svg", text, text], over);
+    wrong_usage(&["pairs", "--svg", text, text], over);
     let needed = "an old file and a new one are needed";
     wrong_usage(&["convert"], needed);
     wrong_usage(&["convert", text], needed);
@@ -177,6 +190,7 @@ fn help_and_version_are_printed() {
     for (word, usage) in [
         ("order", "[--json] FILE P Q"),
         ("cards", "[--busiest] [--json] FILE..."),
+        ("pairs", "[--all] [--json] [--svg FILE] FILE..."),
         ("plan", "[--json] [--draw] [--svg FILE] [--orders] FILE..."),
         ("convert", "[--json] OLD NEW"),
     ] {

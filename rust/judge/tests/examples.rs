@@ -1,6 +1,6 @@
 //! What the command says of each trace and each plan of examples/, in words and as JSON, against
-//! tests/expected; the cards of the clean traces; the pictures that are kept; and what the documents
-//! show of them.
+//! tests/expected; the close pairs of the traces, and the cards of the clean ones; the pictures that are
+//! kept; and what the documents show of them.
 //!
 //! With JUDGE_EXPECTED=write in the environment the expected files and the pictures are written anew,
 //! to be read through before they are kept.
@@ -38,7 +38,8 @@ struct Examples {
     least: usize,
 }
 
-const TRACES: Examples = Examples { end: ".std", word: &[], folder: "", least: 9 };
+const TRACES: Examples = Examples { end: ".std", word: &[], folder: "", least: 10 };
+const PAIRS: Examples = Examples { word: &["pairs"], folder: "pairs", ..TRACES };
 const PLANS: Examples = Examples { end: ".plan", word: &["plan"], folder: "plan", least: 6 };
 
 impl Examples {
@@ -86,6 +87,7 @@ fn hold(path: &Path, found: &str) {
 fn status(line: &str) -> i32 {
     match line.split(' ').next() {
         Some("clean") => 0,
+        Some("pairs") => i32::from(line != "pairs 0"),
         Some("race") => 1,
         Some("refused") => 2,
         _ => panic!("no answer: {line}"),
@@ -94,7 +96,7 @@ fn status(line: &str) -> i32 {
 
 #[test]
 fn each_example_is_told_in_words() {
-    for examples in [TRACES, PLANS] {
+    for examples in [TRACES, PLANS, PAIRS] {
         examples.each(".txt", &[], |name, said| {
             assert_eq!(said.status, status(said.out.lines().next().unwrap()), "{name}");
             let widest = said.out.lines().map(str::len).max();
@@ -118,7 +120,7 @@ fn each_plan_is_drawn() {
 
 #[test]
 fn each_example_is_told_as_json() {
-    for examples in [TRACES, PLANS] {
+    for examples in [TRACES, PLANS, PAIRS] {
         examples.each(".json", &["--json"], |name, said| {
             let object = Json::parse(said.out.trim_end()).expect("it is JSON");
             assert_eq!(said.status, status(object.field("said").text()), "{name}");
@@ -149,7 +151,9 @@ fn each_clean_example_has_cards() {
 /// Those that are kept beside the examples, for the READMEs.
 #[test]
 fn the_pictures_are_those_that_are_kept() {
-    for (set, name) in [(TRACES, "pipeline_race"), (PLANS, "sampler_race")] {
+    for (set, name) in
+        [(TRACES, "pipeline_race"), (PAIRS, "several_races"), (PLANS, "sampler_race")]
+    {
         let folder = folder();
         let path = folder.join("picture.svg");
         let said = set.say(name, &["--svg", path.to_str().expect("a plain path")]);
@@ -177,6 +181,7 @@ fn the_readmes_show_what_is_said() {
     for (readme, said) in [
         ("README.md", said("pipeline_race.txt")),
         ("rust/README.md", said("cards/pipeline.txt")),
+        ("rust/README.md", said("pairs/several_races.txt")),
         ("rust/README.md", drawing),
         ("examples/README.md", said("plan/sampler_race.txt")),
     ] {
@@ -197,6 +202,21 @@ fn the_examples_say_what_their_table_says() {
             let row = row.unwrap_or_else(|| panic!("no row for {name}"));
             let first = set.say(&name, &[]).out.lines().next().unwrap().to_string();
             assert!(row.contains(&format!("`{first}`")), "{name} says {first}: {row}");
+        }
+    }
+}
+
+/// What is said of the pairs begins as it does of the races: a trace with none has none that are close,
+/// and the examples are all short.
+#[test]
+fn an_example_has_pairs_where_it_has_a_race() {
+    for name in TRACES.names() {
+        let (race, pairs) = (say(&name, &[]), PAIRS.say(&name, &[]));
+        assert_eq!(race.status, pairs.status, "{name}");
+        if let Some(first) = race.out.lines().next().and_then(|line| line.strip_prefix("race ")) {
+            let object = Json::parse(PAIRS.say(&name, &["--json"]).out.trim_end()).expect("JSON");
+            let [s, t] = ["s", "t"].map(|end| object.field("pairs").items()[0].field(end).number());
+            assert_eq!(first, format!("{s} {t}"), "{name}");
         }
     }
 }

@@ -6,7 +6,7 @@ use common::{binary, file, finish, folder, judge, plan_at_random, run, Said, DOC
 use racejudge::{Event, Plan, PlanError, Refusal, Verdict, MAX_EVENTS, TEXT_BYTES};
 use racejudge_bench::rng::Rng;
 use std::fs::{self, File};
-use std::io::{Seek, Write};
+use std::io::{Read, Seek, Write};
 use std::iter::repeat_n;
 use std::os::fd::OwnedFd;
 use std::os::unix::fs::{symlink, PermissionsExt};
@@ -31,6 +31,7 @@ fn a_closed_standard_input_is_no_empty_one() {
     let told = "judge: /dev/stdin cannot be read: standard input is closed\n";
     assert_eq!((closed.status, closed.out.as_str(), closed.err.as_str()), (3, "", told));
     assert_eq!(redirected("<&-", &["cards", "/dev/stdin"]), closed);
+    assert_eq!(redirected("<&-", &["pairs", "/dev/stdin"]), closed);
     assert_eq!(redirected("<&-", &["plan", "/dev/stdin"]), closed);
     // A file is judged all the same.
     let text = file(DOCUMENT);
@@ -58,7 +59,7 @@ fn lost_output_is_told() {
     let (text, clean) = (text.to_str().unwrap(), clean.to_str().unwrap());
     let plan = file("P(w5,w5)");
     let plan = plan.to_str().unwrap();
-    let runs: [&[&str]; 11] = [
+    let runs: [&[&str]; 15] = [
         &[text],
         &["--json", text],
         &["order", text, "0", "1"],
@@ -66,6 +67,10 @@ fn lost_output_is_told() {
         &["cards", text],
         &["cards", clean],
         &["cards", "--json", clean],
+        &["pairs", text],
+        &["pairs", "--all", text],
+        &["pairs", "--json", text],
+        &["pairs", clean],
         &["plan", plan],
         &["plan", "--json", plan],
         &["--help"],
@@ -108,6 +113,26 @@ fn a_reader_that_is_gone_is_told() {
     let said = Said::from(child.wait_with_output().unwrap());
     let told = "judge: cannot write to standard output: Broken pipe\n";
     assert_eq!((said.status, said.err.as_str()), (3, told));
+}
+
+/// Long lists are printed piece by piece, and what ends their reader ends them.
+#[test]
+fn a_long_list_that_is_cut_off_is_told() {
+    let child = |task| {
+        let writes = repeat_n(Event::write(task, 5), 30);
+        [Event::fork(0, task)].into_iter().chain(writes).chain([Event::halt(task, 0)])
+    };
+    let long = file(binary((1..100).flat_map(child)));
+    for option in ["--all", "--json"] {
+        let mut command = judge(["pairs".as_ref(), option.as_ref(), long.as_os_str()]);
+        command.stdout(Stdio::piped()).stderr(Stdio::piped());
+        let mut child = command.spawn().unwrap();
+        let mut start = [0; 9];
+        child.stdout.take().unwrap().read_exact(&mut start).unwrap();
+        let said = Said::from(child.wait_with_output().unwrap());
+        let told = "judge: cannot write to standard output: Broken pipe\n";
+        assert_eq!((said.status, said.err.as_str()), (3, told), "{option}");
+    }
 }
 
 /// The first part is read before the second is there.

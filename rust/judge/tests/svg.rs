@@ -5,14 +5,16 @@ mod common;
 use common::plan_at_random;
 use judge::answer::{self, Answer};
 use judge::graph::Graph;
+use judge::recording::Recording;
 use judge::schedule::Schedule;
-use judge::study::Planned;
-use judge::svg::{draw, draw_plan};
+use judge::study::{Listed, Planned};
+use judge::svg::{draw, draw_pairs, draw_plan};
 use judge::why::Why;
-use racejudge::{judge, Event, Kind, Operator, Plan, Refusal, Trace, Tree, Verdict};
+use racejudge::{judge, pairs, Event, Kind, Operator, Pair, Plan, Refusal, Trace, Tree, Verdict};
 use racejudge_bench::rng::Rng;
 use racejudge_bench::trace as slow;
 use racejudge_bench::{samples, workloads};
+use std::collections::HashSet;
 use std::fs;
 use xml::Element;
 
@@ -47,6 +49,14 @@ impl Drawn {
         let schedule = Schedule::of(plan.to_string().into_bytes()).expect("a plan");
         let text = draw_plan(&Planned::new(&schedule), title).expect("a picture");
         let run = Drawn::new(plan.trace().clone(), title);
+        Drawn { root: read(&text, title), text, ..run }
+    }
+
+    /// The picture of the close pairs.
+    fn of_pairs(trace: &Trace, title: &str) -> Self {
+        let recording = Recording { text: None, trace: Ok(trace.clone()) };
+        let text = draw_pairs(&Listed::new(&recording), title).expect("a picture");
+        let run = Drawn::new(trace.clone(), title);
         Drawn { root: read(&text, title), text, ..run }
     }
 
@@ -646,6 +656,163 @@ fn the_leaves_of_a_race_are_marked_in_the_plan_and_in_the_run() {
         races += 1;
     }
     assert!(races > 100, "{races}");
+}
+
+/// The rows that each bracket connects, from its path.
+fn bracket_rows(drawn: &Drawn) -> Vec<(f64, f64)> {
+    let brackets = drawn.figure("path").into_iter().filter(|path| path.has_class("bracket"));
+    let rows = |path: &Element| {
+        let pieces = segments(path);
+        (pieces[0].0 .1, pieces[pieces.len() - 1].1 .1)
+    };
+    brackets.map(rows).collect()
+}
+
+/// The numbers of a sentence, commas left out.
+fn numbers_in(text: &str) -> Vec<usize> {
+    let text = text.replace(',', "");
+    let words = text.split(|c: char| !c.is_ascii_digit()).filter(|word| !word.is_empty());
+    words.map(|word| word.parse().expect("a number")).collect()
+}
+
+/// Marked are the accesses that race, all that are drawn and no other; each bracket connects a pair, and
+/// what is left out is told. How many brackets there are.
+fn check_pairs(drawn: &Drawn, pairs: &[Pair]) -> usize {
+    let racing: HashSet<usize> = pairs.iter().flat_map(|pair| [pair.s, pair.t]).collect();
+    let is_racing = |p: usize| racing.contains(&p);
+    for (p, event) in drawn.events() {
+        assert_eq!(event.has_class("racing"), is_racing(p), "event {p}");
+        let rings = event.all("circle").into_iter().filter(|it| it.has_class("ring")).count();
+        assert_eq!(rings, usize::from(is_racing(p)), "event {p}");
+        assert!(event.has_class("plain"), "event {p}");
+    }
+    let rows = event_rows(drawn);
+    let row = |p: usize| rows.iter().find(|(drawn, _)| *drawn == p).map(|(_, y)| *y);
+    let drawn_pairs = pairs.iter().filter_map(|pair| row(pair.s).zip(row(pair.t)));
+    let drawn_pairs: Vec<(f64, f64)> = drawn_pairs.collect();
+    let mut brackets = bracket_rows(drawn);
+    assert!(brackets.iter().all(|rows| drawn_pairs.contains(rows)), "{brackets:?}");
+    brackets.sort_by(|a, b| a.partial_cmp(b).expect("numbers"));
+    brackets.dedup();
+    let connected = bracket_rows(drawn).len();
+    assert_eq!(brackets.len(), connected, "a pair is connected once");
+    assert!(connected > 0 && connected <= 24, "{connected}");
+    check_lanes(drawn);
+    check_told(drawn, [racing.len(), pairs.len()], connected);
+    connected
+}
+
+/// Brackets above each other do not meet, and all stand between the table and the tasks.
+fn check_lanes(drawn: &Drawn) {
+    let brackets = drawn.figure("path").into_iter().filter(|path| path.has_class("bracket"));
+    let boxes = brackets.map(|path| {
+        let points = segments(path).into_iter().flat_map(|(a, b)| [a, b]);
+        points.fold([f64::MAX, f64::MAX, f64::MIN, f64::MIN], |[l, t, r, b], (x, y)| {
+            [l.min(x), t.min(y), r.max(x), b.max(y)]
+        })
+    });
+    let boxes: Vec<Box> = boxes.collect();
+    for (i, one) in boxes.iter().enumerate() {
+        for other in &boxes[i + 1..] {
+            let are_apart = one[0] != other[0] || one[3] < other[1] || other[3] < one[1];
+            assert!(are_apart && one[2] == other[2], "{one:?} {other:?}");
+        }
+        let signs = drawn.events().into_iter().map(|(_, event)| sign(event).0);
+        assert!(signs.into_iter().all(|x| one[2] < x - 11.0), "{one:?}");
+    }
+}
+
+/// How many accesses are marked and pairs connected, where that is not all.
+fn check_told(drawn: &Drawn, [racing, pairs]: [usize; 2], connected: usize) {
+    let said = drawn.said();
+    let marked = drawn.events().iter().filter(|(_, it)| it.has_class("racing")).count();
+    let sentence = |start: &str| {
+        let found = said.split_once(start).map(|(_, rest)| rest.split('.').next());
+        found.map(|rest| numbers_in(rest.unwrap_or_default()))
+    };
+    let marks = (marked < racing).then(|| vec![marked, racing]);
+    let connects = (marked < racing || connected < pairs).then(|| vec![connected, pairs]);
+    let told = (sentence("Marked are "), sentence("Brackets connect "));
+    assert_eq!(told, (marks, connects), "{said}");
+    assert_eq!(numbers_in(&said)[0], pairs, "{said}");
+}
+
+#[test]
+fn every_access_of_a_close_pair_is_marked() {
+    let (mut met, mut many, mut cut) = (0, 0, 0);
+    for run in examples().into_iter().chain(random_runs(500)).chain(long_runs()) {
+        let Ok(list) = pairs(&run.trace) else { continue };
+        let list: Vec<Pair> = list.take(200_000).collect();
+        if list.is_empty() || list.len() == 200_000 {
+            continue;
+        }
+        let drawn = Drawn::of_pairs(&run.trace, "pairs");
+        nothing_lies_over_a_label(&drawn);
+        let connected = check_pairs(&drawn, &list);
+        assert!(drawn.says(&format!("pairs {}", list.len())));
+        assert!(drawn.says("an access that races") && drawn.says("these two race"));
+        assert!(!drawn.says("no order") && !drawn.said().contains("Cut to what the race needs"));
+        met += 1;
+        many += usize::from(connected > 5);
+        cut += usize::from(!drawn.gaps().is_empty());
+        assert!(drawn.events().len() + drawn.gaps().len() <= 80 && drawn.tasks().len() <= 25);
+    }
+    assert!(met > 60 && many > 10 && cut > 10, "{met} {many} {cut}");
+}
+
+#[test]
+fn all_pairs_of_a_short_run_are_connected() {
+    let path = format!("{}/../../examples/several_races.std", env!("CARGO_MANIFEST_DIR"));
+    let trace = Trace::from_text(fs::read(path).expect("a file")).expect("a trace");
+    let drawn = Drawn::of_pairs(&trace, "several");
+    assert_eq!(bracket_rows(&drawn).len(), 15);
+    assert!(!drawn.said().contains("Brackets connect"), "{}", drawn.said());
+    assert!(drawn.says("task 3 writes location 41, source line 66"));
+}
+
+#[test]
+fn a_picture_of_very_many_pairs_stays_small() {
+    let child = |task| {
+        let writes = (0..30).map(move |_| Event::write(task, 5));
+        [Event::fork(0, task)].into_iter().chain(writes).chain([Event::halt(task, 0)])
+    };
+    let trace: Trace = (1..=100).flat_map(child).collect();
+    let drawn = Drawn::of_pairs(&trace, "many");
+    nothing_lies_over_a_label(&drawn);
+    assert!(pairs(&trace).expect("the rules are kept").len() > 600_000);
+    assert_eq!(bracket_rows(&drawn).len(), 3);
+    assert!(drawn.events().len() < 80);
+}
+
+/// Where no pair is close, the picture is the judge's, with the line of the list.
+#[test]
+fn without_close_pairs_the_picture_is_that_of_the_judge() {
+    let mut far = vec![Event::fork(0, 1), Event::write(1, 5), Event::halt(1, 0)];
+    far.extend(vec![Event::read(0, 6); 300]);
+    far.push(Event::read(0, 5));
+    let trace: Trace = far.iter().copied().collect();
+    let (drawn, race) = (Drawn::of_pairs(&trace, "far"), Drawn::new(trace.clone(), "far"));
+    let said = "No two accesses race that are at most 256 events apart. These are farther apart. ";
+    assert_eq!(drawn.said(), format!("{said}{}", race.said()));
+    assert!(drawn.says("pairs 0") && drawn.says("no order"));
+    nothing_lies_over_a_label(&drawn);
+    let clean: Trace = far[..303].iter().copied().collect();
+    let (drawn, whole) = (Drawn::of_pairs(&clean, "clean"), Drawn::new(clean.clone(), "clean"));
+    assert_eq!((drawn.said(), drawn.says("pairs 0")), (whole.said(), true));
+    // A refusal is told as the judge tells it, but for what stands before it where that races.
+    let early: Trace = far[..9].iter().copied().chain([Event::join(0, 9)]).collect();
+    let (drawn, whole) = (Drawn::of_pairs(&early, "early"), Drawn::new(early.clone(), "early"));
+    assert_eq!(drawn.text, whole.text);
+    let late: Trace = far.iter().copied().chain([Event::join(0, 9)]).collect();
+    let late = Drawn::of_pairs(&late, "late");
+    assert!(late.says("refused 11 304") && !late.said().contains("No two accesses before"));
+    assert!(late.event(304).has_class("refused"));
+}
+
+#[test]
+fn what_is_no_trace_has_no_picture_of_pairs() {
+    let recording = Recording::of(b"T0|r(V1)".to_vec()).expect("a text");
+    assert_eq!(draw_pairs(&Listed::new(&recording), "none"), None);
 }
 
 #[test]

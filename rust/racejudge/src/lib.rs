@@ -1,9 +1,10 @@
 //! A proved judge of data races in fork-join traces.
 //!
 //! A [`Trace`] is what one serial run of a fork-join program did, event by event. [`judge`] says
-//! whether two of its accesses could happen in either order; [`cards`] what a clean trace does to
-//! each location; [`reaches`] whether a path of forks and joins leads from one event to another. A
-//! [`Plan`] is a schedule in series and parallel, which has a trace before any program runs.
+//! whether two of its accesses could happen in either order; [`pairs`] which all do, as far as they
+//! stand close to each other; [`cards`] what a clean trace does to each location; [`reaches`] whether a
+//! path of forks and joins leads from one event to another. A [`Plan`] is a schedule in series and
+//! parallel, which has a trace before any program runs.
 //! [`Trace::convert`] brings over what was stored before halts named the task that resumes.
 //! The answers come from a library whose every answer is proved: *clean* means that there is no
 //! race, and not that none was seen.
@@ -81,6 +82,7 @@ mod binary;
 mod card;
 mod conversion;
 mod event;
+mod pair;
 mod plan;
 #[allow(unsafe_code)]
 pub mod raw;
@@ -92,6 +94,7 @@ pub use binary::Damage;
 pub use card::Card;
 pub use conversion::Conversion;
 pub use event::{Event, Kind, UnknownKind};
+pub use pair::{max_pairs, pairs, Pair, Pairs};
 pub use plan::{Leaf, Needs, Node, Operator, Plan, PlanError, Tree};
 pub use refusal::Refusal;
 pub use trace::{Place, Trace};
@@ -105,6 +108,9 @@ pub const TASKS: usize = 1_024;
 
 /// Locations go from 0 to one below this.
 pub const LOCATIONS: usize = 1_024;
+
+/// Two positions are close to each other if they differ by no more than this: [`pairs`].
+pub const CLOSE: usize = 256;
 
 /// In the table of joins no more links than these lead from a task to the top of its tree.
 pub const MAX_LINKS: usize = 10;

@@ -19,9 +19,9 @@ use crate::Card;
 /// The file name of the archive that is linked.
 pub const ARCHIVE: &str = env!("RACEJUDGE_ARCHIVE");
 
-/// The version of the C interface. Older archives hold halts to another rule and have no [`convert`]:
-/// with one of these the build of this library fails, and says so.
-pub const VERSION: u32 = 5;
+/// The version of the C interface. Older archives have no [`pairs`]: with one of these the build of
+/// this library fails, and says so.
+pub const VERSION: u32 = 6;
 
 /// The workspace has at least this many cells more than the trace has events.
 pub const WORKSPACE: usize = 12_288;
@@ -41,6 +41,8 @@ pub const YES: u64 = 1;
 pub const TRANSLATED: u64 = 0;
 /// The conversion: halts were set as far as the trace keeps the rules.
 pub const CONVERTED: u64 = 0;
+/// The call for pairs: the close pairs; the first value is their number.
+pub const LISTED: u64 = 0;
 /// All calls: a refusal; the first two values are its row and position, any other is 0.
 pub const REFUSED: u64 = 2;
 /// The translation: a slice has fewer than [`MAX_TEXT_EVENTS`](crate::MAX_TEXT_EVENTS) cells.
@@ -97,6 +99,17 @@ macro_rules! foreign {
             values: *mut [u64; 3],
         ) }
     };
+    (pairs $($declared:tt)*) => {
+        $crate::foreign! { @[$($declared)*] (
+            kinds: *const u8, kinds_len: usize,
+            tasks: *const u16, tasks_len: usize,
+            operands: *const u16, operands_len: usize,
+            workspace: *mut u16, workspace_len: usize,
+            earlier: *mut u16, earlier_len: usize,
+            later: *mut u16, later_len: usize,
+            values: *mut [u64; 2],
+        ) }
+    };
     (ordering $($declared:tt)*) => {
         $crate::foreign! { @[$($declared)*] (
             kinds: *const u8, kinds_len: usize,
@@ -140,6 +153,9 @@ macro_rules! foreign {
 foreign!(judge
     /// A function that judges a trace.
     pub type JudgeCall);
+foreign!(pairs
+    /// A function that lists the close pairs of a trace.
+    pub type PairsCall);
 foreign!(ordering
     /// A function that says whether one event reaches another.
     pub type OrderingCall);
@@ -149,6 +165,9 @@ foreign!(judge
 foreign!(judge_cards
     /// The library's [`judge_cards`].
     pub fn racejudge_judge_cards);
+foreign!(pairs
+    /// The library's [`pairs`].
+    pub fn racejudge_pairs);
 foreign!(ordering
     /// The library's [`ordering`].
     pub fn racejudge_ordering);
@@ -205,6 +224,39 @@ pub fn judge_cards(
 ) -> Told<3> {
     // Safe, as in `judge`.
     told!(racejudge_judge_cards, [kinds, tasks, operands], [workspace, first, second, cards])
+}
+
+/// Lists the close pairs of a trace: after [`LISTED`] pair i is `earlier[i]` and `later[i]`. The two may
+/// differ in length: where one has fewer cells than there are pairs, the call is refused by row 20 and
+/// writes none. [`max_pairs`](crate::max_pairs) has how many cells suffice.
+///
+/// ```
+/// use racejudge::{max_pairs, raw};
+///
+/// // Task 0 forks task 1, which writes location 5 and halts; it reads the location and writes it.
+/// let (kinds, tasks, operands) = ([2, 1, 4, 0, 1], [0, 1, 1, 0, 0], [1, 5, 0, 5, 5]);
+/// let mut workspace = [0; raw::WORKSPACE + 5];
+/// let mut list_lent = |earlier: &mut [u16], later: &mut [u16]| {
+///     let told = raw::pairs(&kinds, &tasks, &operands, &mut workspace, earlier, later);
+///     (told.code, told.values)
+/// };
+/// let (mut earlier, mut later) = ([9; max_pairs(5)], [9; max_pairs(5)]);
+/// assert_eq!(list_lent(&mut earlier, &mut later[1..2]), (raw::REFUSED, [20, 0]));
+/// assert_eq!((earlier, later), ([9; 10], [9; 10]));
+///
+/// assert_eq!(list_lent(&mut earlier, &mut later), (raw::LISTED, [2, 0]));
+/// assert_eq!((&earlier[..3], &later[..3]), (&[1, 1, 9][..], &[3, 4, 9][..]));
+/// ```
+pub fn pairs(
+    kinds: &[u8],
+    tasks: &[u16],
+    operands: &[u16],
+    workspace: &mut [u16],
+    earlier: &mut [u16],
+    later: &mut [u16],
+) -> Told<2> {
+    // Safe, as in `judge`.
+    unsafe { pairs_by(racejudge_pairs, kinds, tasks, operands, workspace, earlier, later) }
 }
 
 /// Does event `p` reach event `q`?
@@ -295,6 +347,24 @@ pub unsafe fn judge_by(
     second: &mut [u16],
 ) -> Told<3> {
     told!(call, [kinds, tasks, operands], [workspace, first, second])
+}
+
+/// [`pairs`] by any function of that type.
+///
+/// # Safety
+///
+/// As for [`judge_by`].
+#[inline]
+pub unsafe fn pairs_by(
+    call: PairsCall,
+    kinds: &[u8],
+    tasks: &[u16],
+    operands: &[u16],
+    workspace: &mut [u16],
+    earlier: &mut [u16],
+    later: &mut [u16],
+) -> Told<2> {
+    told!(call, [kinds, tasks, operands], [workspace, earlier, later])
 }
 
 /// [`ordering`] by any function of that type.

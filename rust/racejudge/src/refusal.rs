@@ -21,7 +21,7 @@ use std::fmt;
 /// ```
 #[derive(Clone, Copy, Debug, PartialEq, Eq, Hash)]
 pub struct Refusal {
-    /// The condition's number, 1 to 19.
+    /// The condition's number, 1 to 20.
     pub row: usize,
     /// The event for rows 5 to 12, the text's line for rows 14 and 15 and the plan's byte for rows
     /// 17 and 18, counted from 0; else 0.
@@ -74,6 +74,7 @@ impl Refusal {
                 "a slice has fewer cells than the plan has events, or the plan needs more than 1,024 \
                  tasks or more than 32,768 events"
             }
+            20 => "a slice for the pairs has fewer cells than there are close pairs",
             _ => "no row of the table has this number",
         }
     }
@@ -93,7 +94,7 @@ impl Refusal {
 
     fn counted(&self) -> Counted {
         match self.row {
-            1..=4 | 13 | 16 | 19 => Counted::Nothing,
+            1..=4 | 13 | 16 | 19 | 20 => Counted::Nothing,
             5..=12 => Counted::Events,
             14 | 15 => Counted::Lines,
             17 | 18 => Counted::Bytes,

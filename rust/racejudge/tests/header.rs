@@ -1,8 +1,8 @@
 //! The numbers of the C header, which the bindings have to say once more.
 
 use racejudge::{
-    raw, Card, Kind, Refusal, LOCATIONS, MAX_DEPTH, MAX_EVENTS, MAX_LINKS, MAX_TEXT_EVENTS,
-    TEXT_BYTES,
+    max_pairs, raw, Card, Kind, Refusal, CLOSE, LOCATIONS, MAX_DEPTH, MAX_EVENTS, MAX_LINKS,
+    MAX_TEXT_EVENTS, TEXT_BYTES,
 };
 use std::mem::offset_of;
 
@@ -24,6 +24,22 @@ fn version_and_limits() {
     says(format!("#define RACEJUDGE_NOWHERE {}\n", raw::NOWHERE));
     let (thousands, rest) = (TEXT_BYTES / 1_000, TEXT_BYTES % 1_000);
     says(format!("The first {thousands},{rest:03} bytes of a text decide."));
+    says(format!("#define RACEJUDGE_CLOSE {CLOSE}\n"));
+}
+
+/// The bound of the header's macro, and the most that it comes to.
+#[test]
+fn the_most_pairs() {
+    let less = CLOSE * MAX_EVENTS - max_pairs(MAX_EVENTS);
+    says(format!(": RACEJUDGE_CLOSE * (size_t)(n) - {less})\n"));
+    says("has no more close pairs than this: 8,355,712 at the most.".to_string());
+    assert_eq!(max_pairs(MAX_EVENTS), 8_355_712);
+    for n in 0..=CLOSE {
+        assert_eq!(max_pairs(n), n * n.saturating_sub(1) / 2);
+    }
+    for n in [CLOSE + 1, CLOSE + 2, 1_000, MAX_EVENTS - 1, MAX_EVENTS] {
+        assert_eq!(max_pairs(n), CLOSE * n - less);
+    }
 }
 
 /// A record's fields, in their order and with nothing between them.
@@ -51,6 +67,7 @@ fn values() {
             "judge_cards",
             raw::judge_cards(&[], &[], &[], &mut [], &mut [], &mut [], &mut []).values.len(),
         ),
+        ("pairs", raw::pairs(&[], &[], &[], &mut [], &mut [], &mut []).values.len()),
         ("ordering", raw::ordering(&[], &[], &[], &mut [], 0, 0).values.len()),
         ("convert", raw::convert(&[], &[], &mut [], &mut []).values.len()),
         ("translate", raw::translate(&[], &mut [], &mut [], &mut []).values.len()),
@@ -71,6 +88,7 @@ fn codes() {
     let (translated, short) = (code("TRANSLATED", raw::TRANSLATED), code("SHORT", raw::SHORT));
     says(format!("{{ {translated}, {short} }};"));
     says(format!("{{ {} }};", code("CONVERTED", raw::CONVERTED)));
+    says(format!("{{ {} }};", code("LISTED", raw::LISTED)));
     says(format!("{{ {} }};", code("REFUSED", raw::REFUSED)));
 }
 
@@ -87,4 +105,23 @@ fn refusals() {
     for row in [5, 6, 7, 8, 9, 10, 11, 12] {
         says(format!("\n *   {row:>2}  {}\n", Refusal { row, position: 0 }.meaning()));
     }
+    let short = Refusal { row: 20, position: 0 }.meaning();
+    says(format!("\n *   20  {short} (the call for pairs only)\n"));
+}
+
+/// The parameters of the call for pairs, in their order.
+#[test]
+fn the_call_for_pairs() {
+    let words: Vec<&str> = HEADER.split_whitespace().collect();
+    let slice = |kind: &str, name: &str| format!("{kind} *{name}, size_t {name}_len");
+    let slices = [
+        slice("const uint8_t", "kinds"),
+        slice("const uint16_t", "tasks"),
+        slice("const uint16_t", "operands"),
+        slice("uint16_t", "workspace"),
+        slice("uint16_t", "earlier"),
+        slice("uint16_t", "later"),
+    ];
+    let wanted = format!("uint64_t racejudge_pairs({}, uint64_t values[2]);", slices.join(", "));
+    assert!(words.join(" ").contains(&wanted), "{wanted}");
 }

@@ -1,7 +1,8 @@
 //! Whatever comes in, something is said of it, and nothing panics.
 
 use racejudge::{
-    cards, judge, raw, reaches, Card, Event, Kind, Trace, Verdict, MAX_LINKS, MAX_TEXT_EVENTS,
+    cards, judge, max_pairs, pairs, raw, reaches, Card, Event, Kind, Pair, Trace, Verdict, CLOSE,
+    MAX_LINKS, MAX_TEXT_EVENTS,
 };
 use racejudge_bench::rng::Rng;
 
@@ -39,8 +40,28 @@ impl Noise {
     }
 }
 
+/// What is said of the close pairs, beside what the judge and the ordering call say.
+fn listed(trace: &Trace) {
+    let (verdict, told) = (judge(trace), pairs(trace));
+    assert_eq!(told.as_ref().err(), reaches(trace, 0, 0).err().filter(|it| it.row != 13).as_ref());
+    let Ok(told) = told else { return };
+    assert!(told.len() <= max_pairs(trace.len()));
+    assert!(told.clone().is_sorted_by_key(|Pair { s, t }| (t, s)));
+    for Pair { s, t } in told.clone() {
+        assert!(s < t && t - s <= CLOSE && reaches(trace, s, t) == Ok(false));
+    }
+    match verdict {
+        Ok(Verdict::Race { s, t, .. }) => {
+            let first = told.clone().next();
+            assert_eq!(first.filter(|_| t - s <= CLOSE), Some(Pair { s, t }));
+        }
+        verdict => assert_eq!((told.len(), verdict.is_ok()), (0, true)),
+    }
+}
+
 /// Every question that there is about a trace; what is said holds together.
 fn asked(trace: &Trace, noise: &mut Noise) {
+    listed(trace);
     let verdict = judge(trace);
     if let Ok(Verdict::Race { s, t, first, second, .. }) = &verdict {
         assert!(s < t && *t < trace.len());

@@ -1,8 +1,8 @@
 //! Every row of the table: how it is met, and what is said of it.
 
 use racejudge::{
-    cards, judge, raw, reaches, Card, Event, Plan, Refusal, Trace, Verdict, LOCATIONS, MAX_EVENTS,
-    TASKS,
+    cards, judge, pairs, raw, reaches, Card, Event, Plan, Refusal, Trace, Verdict, LOCATIONS,
+    MAX_EVENTS, TASKS,
 };
 use std::collections::HashSet;
 use std::error::Error;
@@ -18,6 +18,7 @@ fn refused(trace: &Trace, row: usize, position: usize) {
     let refusal = Refusal { row, position };
     assert_eq!(judge(trace), Err(refusal));
     assert_eq!(cards(trace), Err(refusal));
+    assert_eq!(pairs(trace).err(), Some(refusal));
     assert_eq!(reaches(trace, 0, 0), Err(refusal));
     assert_eq!(reaches(trace, usize::MAX, usize::MAX), Err(refusal));
 }
@@ -45,6 +46,9 @@ fn rows_3_and_4_which_only_a_lender_meets() {
     assert_eq!((told.code, told.values), (raw::REFUSED, [3, 0]));
     let told = raw::convert(&[0], &[0], &mut [0], &mut workspace);
     assert_eq!((told.code, told.values), (raw::REFUSED, [3, 0]));
+    let told = raw::pairs(&[0], &[0], &[0], &mut workspace, &mut [], &mut []);
+    assert_eq!((told.code, told.values), (raw::REFUSED, [3, 0]));
+    assert_eq!(workspace, [7; raw::WORKSPACE]);
     let mut workspace = [7; raw::WORKSPACE + 1];
     let told = raw::judge(&[0], &[0], &[0], &mut workspace, &mut [], &mut order);
     assert_eq!((told.code, told.values), (raw::REFUSED, [4, 0, 0]));
@@ -148,10 +152,30 @@ fn rows_17_to_19() {
 }
 
 #[test]
+fn row_20_which_only_a_lender_of_slices_for_pairs_meets() {
+    let race =
+        trace(&[Event::fork(0, 1), Event::write(1, 5), Event::halt(1, 0), Event::read(0, 5)]);
+    let mut workspace = [7; raw::WORKSPACE + 4];
+    let (kinds, tasks, operands) = (race.kinds(), race.tasks(), race.operands());
+    for (earlier, later) in [(0, 0), (0, 1), (1, 0), (0, 9), (9, 0)] {
+        let (mut earlier, mut later) = (vec![7; earlier], vec![7; later]);
+        let told = raw::pairs(kinds, tasks, operands, &mut workspace, &mut earlier, &mut later);
+        assert_eq!((told.code, told.values), (raw::REFUSED, [20, 0]));
+        assert!(earlier.iter().chain(&later).all(|&cell| cell == 7));
+        assert_eq!(workspace, [0; raw::WORKSPACE + 4]);
+    }
+    let sentence = Refusal { row: 20, position: 0 }.to_string();
+    let wanted =
+        "the call is refused by row 20: a slice for the pairs has fewer cells than there are \
+                  close pairs";
+    assert_eq!(sentence, wanted);
+}
+
+#[test]
 fn each_row_has_a_sentence_of_its_own() {
-    let refusals = || (1..=19).map(|row| Refusal { row, position: 4_711 });
+    let refusals = || (1..=20).map(|row| Refusal { row, position: 4_711 });
     let meanings: HashSet<&str> = refusals().map(|refusal| refusal.meaning()).collect();
-    assert_eq!(meanings.len(), 19);
+    assert_eq!(meanings.len(), 20);
     for refusal in refusals() {
         let (sentence, row) = (refusal.to_string(), refusal.row);
         assert!(sentence.contains(&format!("row {row}:")), "{sentence}");
@@ -169,7 +193,7 @@ fn each_row_has_a_sentence_of_its_own() {
 
 #[test]
 fn a_row_that_is_not_known_is_told_too() {
-    for row in [0, 20, usize::MAX] {
+    for row in [0, 21, usize::MAX] {
         let sentence = Refusal { row, position: usize::MAX }.to_string();
         let start = format!("refused by row {row} at position {}: ", usize::MAX);
         assert!(sentence.starts_with(&start), "{sentence}");

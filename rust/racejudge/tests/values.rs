@@ -29,6 +29,17 @@ fn as_many_as_the_call_has() {
         raw::racejudge_judge_cards(none(), 0, none(), 0, none(), 0, w, 0, f, 0, s, 0, c, 0, values)
     });
     assert_eq!(carded, (raw::REFUSED, [3, 0, 0, UNSET, UNSET]));
+    let listed = stored(|values| unsafe {
+        let (w, e, l) = (none(), none(), none());
+        raw::racejudge_pairs(none(), 0, none(), 0, none(), 0, w, 0, e, 0, l, 0, values)
+    });
+    assert_eq!(listed, (raw::REFUSED, [3, 0, UNSET, UNSET, UNSET]));
+    let mut cells = [7; raw::WORKSPACE];
+    let listed = stored(|values| unsafe {
+        let (w, e, l) = (cells.as_mut_ptr(), none(), none());
+        raw::racejudge_pairs(none(), 0, none(), 0, none(), 0, w, cells.len(), e, 0, l, 0, values)
+    });
+    assert_eq!(listed, (raw::LISTED, [0, 0, UNSET, UNSET, UNSET]));
     let ordered = stored(|values| unsafe {
         raw::racejudge_ordering(none(), 0, none(), 0, none(), 0, none(), 0, 0, 0, values)
     });

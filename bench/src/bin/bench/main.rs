@@ -1,5 +1,5 @@
-//! Measures the linked judge, plan reader and conversion beside their peers in one interleaved run,
-//! prints the tables and whether the targets are met.
+//! Measures the linked judge, call for pairs, plan reader and conversion beside their peers in one
+//! interleaved run, prints the tables and whether the targets are met.
 //!
 //! Every round goes through all rows and, in each, through all its traces or plans; on each all peers
 //! run one after the other in an order drawn anew. A time is the best of all rounds for its trace or
@@ -46,7 +46,8 @@ fn main() {
     print(&format!("judge: {}\n", ffi::LINKED));
     let mut rows = Rows::new(&mut peers, traces, &mut rng);
     print(&format!(
-        "all judges and conversions agree on every trace, all readers on every plan; {rounds} rounds\n"
+        "all judges, calls for pairs and conversions agree on every trace, all readers on every plan; \
+         {rounds} rounds\n"
     ));
     for round in 0..rounds {
         go_round(&mut peers, &mut rows, round, matrix, &mut rng);

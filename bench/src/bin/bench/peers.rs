@@ -1,14 +1,15 @@
-//! What is measured: the linked judge, plan reader and conversion, their peers, and the buffers that
-//! are lent to them.
+//! What is measured: the linked judge, call for pairs, plan reader and conversion, their peers, and the
+//! buffers that are lent to them.
 
 use racejudge_bench::ancestors::Ancestors;
 use racejudge_bench::cards::cards;
 use racejudge_bench::convert;
 use racejudge_bench::fasttrack::FastTrack;
-use racejudge_bench::ffi::{self, Converter, Judge, Reader, Record, Told};
-use racejudge_bench::ffi::{BEFORE, CONVERSION, CONVERSION_C, PLAN, PLAN_C};
+use racejudge_bench::ffi::{self, Converter, Judge, Lister, Reader, Record, Told};
+use racejudge_bench::ffi::{BEFORE, CONVERSION, CONVERSION_C, LISTER, LISTER_C, PLAN, PLAN_C};
 use racejudge_bench::ffi::{PROVED, TWO_ORDERS, UNION_FIND};
 use racejudge_bench::joins::links;
+use racejudge_bench::pairs::{listed, pairs};
 use racejudge_bench::plan::Plan;
 use racejudge_bench::program::mismatch;
 use racejudge_bench::trace::*;
@@ -31,6 +32,10 @@ pub enum Peer {
     Pass,
     /// An older judge, where one is linked.
     Before,
+    /// The call for pairs.
+    Pairs,
+    /// The call for pairs by hand.
+    PairsC,
     Plan,
     /// The plan reader by hand.
     PlanC,
@@ -46,6 +51,9 @@ pub const ORDERING: [Peer; 4] = [Peer::Judge, Peer::TwoOrders, Peer::UnionFind, 
 pub const CARDS: [Peer; 3] = [Peer::Cards, Peer::Judge, Peer::Pass];
 pub const CHAINS: [Peer; 3] = [Peer::Judge, Peer::TwoOrders, Peer::UnionFind];
 pub const AGAIN: [Peer; 2] = [Peer::Judge, Peer::Before];
+pub const LISTING: [Peer; 3] = [Peer::Pairs, Peer::Judge, Peer::PairsC];
+/// The judge stops at the first race.
+pub const LISTING_RACES: [Peer; 2] = [Peer::Pairs, Peer::PairsC];
 pub const READING: [Peer; 2] = [Peer::Plan, Peer::PlanC];
 pub const CONVERTING: [Peer; 3] = [Peer::Conversion, Peer::Judge, Peer::ConversionC];
 
@@ -64,6 +72,8 @@ impl Peer {
             Peer::Cards => "judge with cards",
             Peer::Pass => "pass C",
             Peer::Before => "judge before",
+            Peer::Pairs => "pairs",
+            Peer::PairsC => LISTER_C.name,
             Peer::Plan => "plan reader",
             Peer::PlanC => PLAN_C.name,
             Peer::Conversion => "conversion",
@@ -107,6 +117,9 @@ pub struct Peers {
     first: Vec<u16>,
     second: Vec<u16>,
     cards: Vec<Record>,
+    /// The slices that pairs are written to.
+    earlier: Vec<u16>,
+    later: Vec<u16>,
     /// The slices that a plan is written to.
     planned: Trace,
     /// The operands that a conversion works on.
@@ -122,6 +135,8 @@ impl Peers {
             first: vec![0; MAX_EVENTS],
             second: vec![0; MAX_EVENTS],
             cards: vec![Record::UNTOUCHED; LOCATIONS],
+            earlier: vec![0; MAX_PAIRS],
+            later: vec![0; MAX_PAIRS],
             planned: Trace::of(&[(0, READ, 0); MAX_EVENTS]),
             operands: Vec::with_capacity(MAX_EVENTS),
         }
@@ -151,6 +166,8 @@ impl Peers {
                 Peer::Cards => _ = black_box(self.call_with_cards(trace)),
                 // Safe, as for FastTrack.
                 Peer::Pass => unsafe { ffi::pass(trace, black_box(&mut self.cards)) },
+                Peer::Pairs => _ = black_box(self.list(&LISTER, trace)),
+                Peer::PairsC => _ = black_box(self.list(&LISTER_C, trace)),
                 Peer::Plan => _ = black_box(self.read(&PLAN, plan)),
                 Peer::PlanC => _ = black_box(self.read(&PLAN_C, plan)),
                 Peer::Conversion => _ = black_box(self.convert(&CONVERSION, trace)),
@@ -180,6 +197,10 @@ impl Peers {
         ffi::judge_cards(trace, workspace, first, second, cards)
     }
 
+    fn list(&mut self, lister: &Lister, trace: &Trace) -> Told<2> {
+        lister.list(trace, &mut self.workspace, &mut self.earlier, &mut self.later)
+    }
+
     fn read(&mut self, reader: &Reader, plan: &str) -> Told<2> {
         let Trace { kinds, tasks, operands } = &mut self.planned;
         (reader.read)(plan.as_bytes(), kinds, tasks, operands)
@@ -201,7 +222,7 @@ impl Peers {
         let mut left = Vec::new();
         for judge in [&PROVED, &TWO_ORDERS, &UNION_FIND] {
             for buffer in [&mut self.workspace, &mut self.first, &mut self.second] {
-                buffer.fill(7);
+                buffer.fill(DIRT);
             }
             said(judge.name, call(self, judge), wanted, trace);
             left.push((self.workspace.clone(), self.first.clone(), self.second.clone()));
@@ -274,20 +295,48 @@ impl Peers {
         said("the slow conversion", convert::operands(stored), trace.operands.clone(), stored);
         for converter in [&CONVERSION, &CONVERSION_C] {
             self.operands.clone_from(&stored.operands);
-            self.workspace.fill(7);
+            self.workspace.fill(DIRT);
             said(converter.name, self.convert(converter, stored), Conversion::Done.into(), stored);
-            let (cleared, rest) = self.workspace.split_at(WORKSPACE + trace.len());
-            let left = cleared.iter().all(|&cell| cell == 0) && rest.iter().all(|&cell| cell == 7);
+            let left = begins(&self.workspace, &vec![0; WORKSPACE + trace.len()]);
             if !left || self.operands != trace.operands {
                 mismatch(&format!("{} left other buffers\non {stored}", converter.name));
             }
         }
     }
 
+    /// Both calls for pairs must list the slow pairs and clear the workspace. How many pairs there are.
+    pub fn agree_on_pairs(&mut self, trace: &Trace) -> usize {
+        let found = pairs(&mut self.ancestors, trace);
+        let lent = [self.workspace.len(), self.earlier.len(), self.later.len()];
+        let wanted = listed(trace, &found, lent);
+        for lister in [&LISTER, &LISTER_C] {
+            for buffer in [&mut self.workspace, &mut self.earlier, &mut self.later] {
+                buffer.fill(DIRT);
+            }
+            said(lister.name, self.list(lister, trace), wanted.said.into(), trace);
+            let left = begins(&self.workspace, &vec![0; wanted.cleared])
+                && begins(&self.earlier, &wanted.earlier)
+                && begins(&self.later, &wanted.later);
+            if !left {
+                mismatch(&format!("{} left other buffers\non {trace}", lister.name));
+            }
+        }
+        wanted.earlier.len()
+    }
+
     /// The older judge must give the expected answer.
     pub fn agree_before(&mut self, before: &Judge, trace: &Trace, expected: Answer) {
         said(before.name, Answer::from(self.judge(before, trace)), expected, trace);
     }
+}
+
+/// What buffers hold before a call where they are compared after it.
+const DIRT: u16 = 7;
+
+/// Whether a buffer begins so, and has not changed behind.
+fn begins(buffer: &[u16], start: &[u16]) -> bool {
+    let (begun, rest) = buffer.split_at(start.len());
+    begun == start && rest.iter().all(|&cell| cell == DIRT)
 }
 
 /// Ends the run where a judge or a reader does not say what is wanted.

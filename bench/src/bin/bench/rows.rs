@@ -2,13 +2,14 @@
 
 use crate::peers::{Call, Input, Peer, Peers};
 use crate::peers::{AGAIN, CARDS, CHAINS, CONVERTING, JUDGING, ORDERING, READING};
+use crate::peers::{LISTING, LISTING_RACES};
 use racejudge_bench::extent::Extent;
 use racejudge_bench::ffi::BEFORE;
 use racejudge_bench::joins::links;
 use racejudge_bench::rng::Rng;
 use racejudge_bench::shapes::{Shape, HALVED, RANDOM, SHAPES};
 use racejudge_bench::trace::*;
-use racejudge_bench::workloads::{self, Make, Workload, PAIRS, WORKLOADS};
+use racejudge_bench::workloads::{self, Make, Racing, Workload, PAIRS, RACING, WORKLOADS};
 
 /// The sizes at which growth is measured.
 pub const SIZES: [usize; 5] = [1_024, 4_096, 8_192, 16_384, MAX_EVENTS];
@@ -20,11 +21,16 @@ const MATRIX_EVENTS: usize = 4_096;
 const SHORT: usize = 64;
 const BATCH: usize = 64;
 
+/// A list of many pairs takes long: so few traces of each workload with races are measured.
+const RACING_TRACES: usize = 2;
+
 pub struct Row {
     pub name: &'static str,
     /// What else tells the row from others.
     detail: String,
     pub events: usize,
+    /// The close pairs of all traces, where these are listed.
+    pairs: usize,
     pub peers: &'static [Peer],
     call: Call,
     inputs: Vec<Input>,
@@ -50,6 +56,7 @@ impl Row {
             name,
             detail: String::new(),
             events,
+            pairs: 0,
             peers,
             call,
             batch: if looked_at < SHORT { BATCH } else { 1 },
@@ -99,6 +106,16 @@ impl Row {
     pub fn millions(&self, peer: Peer) -> f64 {
         self.events as f64 / self.micros(peer)
     }
+
+    /// The close pairs of a trace, on the mean.
+    pub fn pairs(&self) -> f64 {
+        self.pairs as f64 / self.inputs.len() as f64
+    }
+
+    /// Millions of them a second.
+    pub fn million_pairs(&self, peer: Peer) -> f64 {
+        self.pairs() / self.micros(peer)
+    }
 }
 
 /// Those of each table.
@@ -109,6 +126,8 @@ pub struct Rows {
     pub cards: Vec<Row>,
     pub chains: Vec<Row>,
     pub again: Vec<Row>,
+    pub pairs: Vec<Row>,
+    pub races: Vec<Row>,
     pub plans: Vec<Row>,
     pub plan_growth: Vec<Row>,
     pub conversion: Vec<Row>,
@@ -124,6 +143,8 @@ impl Rows {
             cards: cards(peers, count, rng),
             chains: chains(peers, count, rng),
             again: again(peers, count, rng),
+            pairs: pairs(peers, count, rng),
+            races: RACING.iter().map(|racing| races(peers, racing, count, rng)).collect(),
             plans: SHAPES.iter().map(|shape| plans(peers, shape, MAX_EVENTS, count, rng)).collect(),
             plan_growth: plan_growth(peers, count, rng),
             conversion: conversion(peers, count, rng),
@@ -133,8 +154,9 @@ impl Rows {
     pub fn all(&mut self) -> impl Iterator<Item = &mut Row> {
         let Rows { workloads, growth, ordering, cards, chains, again, .. } = self;
         let judged = [workloads, growth, ordering, cards, chains, again];
+        let listed = [&mut self.pairs, &mut self.races];
         let others = [&mut self.plans, &mut self.plan_growth, &mut self.conversion];
-        judged.into_iter().chain(others).flatten()
+        judged.into_iter().chain(listed).chain(others).flatten()
     }
 }
 
@@ -207,11 +229,14 @@ fn ordering(peers: &mut Peers, count: usize, rng: &mut Rng) -> Vec<Row> {
     rows
 }
 
+fn clean() -> impl Iterator<Item = &'static Workload> {
+    WORKLOADS.iter().filter(|workload| (workload.expected)(MAX_EVENTS) == Answer::Clean)
+}
+
 /// The clean workloads at full size, for cards.
 fn cards(peers: &mut Peers, count: usize, rng: &mut Rng) -> Vec<Row> {
-    let clean = |workload: &&Workload| (workload.expected)(MAX_EVENTS) == Answer::Clean;
     let mut rows = Vec::new();
-    for workload in WORKLOADS.iter().filter(clean) {
+    for workload in clean() {
         let traces = traces(workload.make, MAX_EVENTS, count, rng);
         if traces[0].is_empty() {
             continue;
@@ -268,6 +293,34 @@ fn again(peers: &mut Peers, count: usize, rng: &mut Rng) -> Vec<Row> {
         rows.push(Row::new(workload.name, &AGAIN, Call::Judge, inputs, expected));
     }
     rows
+}
+
+/// The clean workloads at full size, for pairs.
+fn pairs(peers: &mut Peers, count: usize, rng: &mut Rng) -> Vec<Row> {
+    let mut rows = Vec::new();
+    for workload in clean() {
+        let traces = traces(workload.make, MAX_EVENTS, count, rng);
+        for trace in &traces {
+            peers.agree(trace, Answer::Clean, false);
+            assert_eq!(peers.agree_on_pairs(trace), 0, "{}", workload.name);
+        }
+        rows.push(Row::new(workload.name, &LISTING, Call::Judge, traces, Answer::Clean));
+    }
+    rows
+}
+
+/// A workload with races at full size, for pairs. The call looks at every event, however early the
+/// first race is.
+fn races(peers: &mut Peers, racing: &Racing, count: usize, rng: &mut Rng) -> Row {
+    let traces = traces(racing.make, MAX_EVENTS, count.min(RACING_TRACES), rng);
+    let mut all = 0;
+    for trace in &traces {
+        let pairs = peers.agree_on_pairs(trace);
+        assert!((racing.pairs)(MAX_EVENTS).contains(&pairs), "{}: {pairs} pairs", racing.name);
+        all += pairs;
+    }
+    let row = Row::new(racing.name, &LISTING_RACES, Call::Judge, traces, Answer::Clean);
+    Row { pairs: all, ..row }
 }
 
 /// The workloads at full size, for the conversion. Races do not stop it: no call is a short one, and

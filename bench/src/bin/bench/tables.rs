@@ -1,6 +1,6 @@
 //! The tables, in Markdown with columns that line up, and the summary.
 
-use crate::peers::{Peer, AGAIN, CARDS, CHAINS, CONVERTING, JUDGING, ORDERING, READING};
+use crate::peers::{Peer, AGAIN, CARDS, CHAINS, CONVERTING, JUDGING, LISTING, ORDERING, READING};
 use crate::rows::{Row, Rows, SIZES};
 use racejudge_bench::trace::MAX_EVENTS;
 use std::iter::once;
@@ -17,6 +17,8 @@ const UNION_FIND: Ratio = Ratio { of: Peer::Judge, over: &[Peer::UnionFind] };
 const FASTTRACK: Ratio = Ratio { of: Peer::Judge, over: &[Peer::FastTrack] };
 const PASS: Ratio = Ratio { of: Peer::Cards, over: &[Peer::Judge, Peer::Pass] };
 const BEFORE: Ratio = Ratio { of: Peer::Judge, over: &[Peer::Before] };
+const LISTED: Ratio = Ratio { of: Peer::Pairs, over: &[Peer::Judge] };
+const LISTED_C: Ratio = Ratio { of: Peer::Pairs, over: &[Peer::PairsC] };
 const READER: Ratio = Ratio { of: Peer::Plan, over: &[Peer::PlanC] };
 const CONVERSION: Ratio = Ratio { of: Peer::Conversion, over: &[Peer::Judge] };
 const CONVERSION_C: Ratio = Ratio { of: Peer::Conversion, over: &[Peer::ConversionC] };
@@ -41,14 +43,16 @@ impl Ratio {
 
 /// Targets, each at most this: the time over that of the two orders in C, for both calls; over
 /// FastTrack's; that with cards over the judge's and the pass's; the judge's with long chains over
-/// its own with short ones; over the older judge's, which told no links; the plan reader's over that
-/// of the one in C; an event's in the longest trace over one's in the shortest, or a byte's in the
-/// longest plan, which would be 32 if growth were quadratic.
+/// its own with short ones; over the older judge's, which told no links; that of the call for pairs
+/// over the judge's, where nothing races; the plan reader's over that of the one in C; an event's in
+/// the longest trace over one's in the shortest, or a byte's in the longest plan, which would be 32 if
+/// growth were quadratic.
 const OVER_TWO_ORDERS: f64 = 1.3;
 const OVER_FASTTRACK: f64 = 1.0;
 const OVER_PASS: f64 = 1.3;
 const OVER_SHORT_CHAINS: f64 = 1.25;
 const OVER_BEFORE: f64 = 1.25;
+const PAIRS_OVER_JUDGE: f64 = 1.6;
 const OVER_READER: f64 = 1.5;
 const GROWTH: f64 = 2.0;
 
@@ -114,7 +118,7 @@ fn markdown(lines: &[Vec<String>]) -> String {
 
 /// A number with two places, or a dash where nothing was measured.
 fn two_places(number: f64) -> String {
-    if number.is_nan() {
+    if !number.is_finite() {
         return "-".to_string();
     }
     format!("{number:.2}")
@@ -133,6 +137,7 @@ pub fn all(rows: &Rows) -> String {
         table(&full("The ordering call"), ordering, Row::micros, &ORDERING, &MEASURES[..2]),
         table(&full("The judge with cards"), cards, Row::micros, &CARDS, &[PASS]),
         chains(&full("Long chains and short"), &rows.chains),
+        pairs(&full("The call for pairs"), rows),
         table(&full("The plan reader"), plans, Row::micros, &READING, &[READER]),
         table(plan_grown, plan_growth, Row::nanos_a_byte, &READING, &[READER]),
         table(rate, &rows.conversion, Row::millions, &CONVERTING, &over),
@@ -142,6 +147,23 @@ pub fn all(rows: &Rows) -> String {
         tables.push(table(&title, again, Row::micros, &AGAIN, &[BEFORE]));
     }
     tables.concat()
+}
+
+/// The rows without races, then those with some.
+fn pairs(title: &str, rows: &Rows) -> String {
+    let ratios = [LISTED, LISTED_C];
+    let beside = ["pairs, ns an event", "close pairs", "pairs, millions a second"];
+    let mut lines = vec![head(&LISTING, &ratios)];
+    lines[0].extend(beside.map(String::from));
+    for row in rows.pairs.iter().chain(&rows.races) {
+        let times = LISTING.iter().map(|&peer| row.micros(peer));
+        let mut cells = line(row.label(), times.chain(ratios.map(|ratio| ratio.in_row(row))));
+        cells.push(two_places(row.nanos_an_event(Peer::Pairs)));
+        cells.push(format!("{:.0}", row.pairs()));
+        cells.push(two_places(row.million_pairs(Peer::Pairs)));
+        lines.push(cells);
+    }
+    format!("\n{title}\n\n{}", markdown(&lines))
 }
 
 const LONG_OVER_SHORT: &str = "chains of 10 / chains of 1";
@@ -172,6 +194,7 @@ pub fn summary(rows: &Rows) -> String {
     let unlike = full.filter_map(|row| Some((row, over_union_find(row.name)?)));
     let fasttrack = unlike.clone().map(|(row, _)| (row, OVER_FASTTRACK));
     let carded = cards.iter().map(|row| (row, OVER_PASS));
+    let listed = rows.pairs.iter().map(|row| (row, PAIRS_OVER_JUDGE));
     let planned = plans.iter().chain(plan_growth).map(|row| (row, OVER_READER));
     let chained = chains.chunks(2).map(|pair| Held {
         ratio: long_over_short(pair, Peer::Judge),
@@ -186,6 +209,7 @@ pub fn summary(rows: &Rows) -> String {
         ratios("judge with cards", PASS, carded),
         nearest(format!("judge, {LONG_OVER_SHORT}"), chained),
         steepest("growth", "an event", growth, |row| row.nanos_an_event(Peer::Judge)),
+        ratios("pairs", LISTED, listed),
         ratios("plan reader", READER, planned),
         steepest("growth of the plan reader", "a byte", plan_growth, |row| {
             row.nanos_a_byte(Peer::Plan)

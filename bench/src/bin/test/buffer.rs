@@ -3,6 +3,7 @@
 use racejudge_bench::ffi::Record;
 use racejudge_bench::rng::Rng;
 use racejudge_bench::trace::{MAX_EVENTS, TASKS, WORKSPACE};
+use std::borrow::Cow;
 use std::fmt::Debug;
 
 /// Cells on either side of each lent slice that must stay as they are.
@@ -44,9 +45,13 @@ pub struct Buffer<T> {
 }
 
 impl<T: Cell> Buffer<T> {
-    /// So many cells to lend, with a part of the dirt.
+    /// So many cells to lend, with a part of the dirt, or all of it again and again.
     pub fn drawn(dirt: &[u16], rng: &mut Rng, lent: usize) -> Self {
         let whole = (lent + 2 * GUARD) * T::NUMBERS;
+        let dirt = match whole.div_ceil(dirt.len()) {
+            1 => Cow::from(dirt),
+            times => Cow::from(dirt.repeat(times)),
+        };
         let from = rng.below(dirt.len() - whole + 1);
         let numbers = dirt[from..from + whole].chunks_exact(T::NUMBERS);
         let before: Vec<T> = numbers.map(T::of).collect();

@@ -180,20 +180,23 @@ fn random(test: &mut Test) {
     }
 }
 
+/// What breaks a rule where task 0 runs, others have been forked and 2 is not next to it, with the row.
+pub const BREAKING: [(Event, usize); 8] = [
+    ((0, NO_KIND, 0), 5),
+    ((1, READ, 7), 7),
+    ((0, READ, 1_024), 8),
+    ((0, SUM, 1_024), 8),
+    ((0, FORK, 1_024), 9),
+    ((0, FORK, 1), 10),
+    ((0, JOIN, 2), 11),
+    ((0, HALT, 1), 12),
+];
+
 /// Behind a chain of 5 links: no refusal reports it.
 fn refusals(test: &mut Test) {
     let chain = built(|b| grow(b, 5));
     let n = chain.len();
-    for (event, row) in [
-        ((0, NO_KIND, 0), 5),
-        ((1, READ, 7), 7),
-        ((0, READ, 1_024), 8),
-        ((0, SUM, 1_024), 8),
-        ((0, FORK, 1_024), 9),
-        ((0, FORK, 1), 10),
-        ((0, JOIN, 1), 11),
-        ((0, HALT, 1), 12),
-    ] {
+    for (event, row) in BREAKING {
         let mut trace = chain.clone();
         trace.insert(n, event);
         known(test.judge(&trace), Answer::Refused(row, n), &trace);

@@ -1,16 +1,18 @@
 //! One call of each linked judge held against the slow judge: the answer with its values, the
-//! workspace, both order buffers and the cards whole, the cells around them, the trace. Counts what
-//! was met.
+//! workspace, both order buffers and the cards whole, the cells around them, the trace. Then the pairs
+//! of the trace are listed, and it is brought over. Counts what was met.
 
 use crate::buffer::{dirt, Buffer, Cell};
 use crate::conversions::Conversions;
 use crate::halts::MISNAMED;
 use crate::meaning;
+use crate::pairs::Pairs;
 use crate::watch::watched;
 use racejudge_bench::ancestors::{Ancestors, Outcome};
 use racejudge_bench::extent::{Extent, LIMITS};
 use racejudge_bench::fasttrack::FastTrack;
 use racejudge_bench::ffi::{self, Judge, Record, Told, PROVED, TWO_ORDERS, UNION_FIND};
+use racejudge_bench::pairs::pairs;
 use racejudge_bench::program::mismatch;
 use racejudge_bench::rng::Rng;
 use racejudge_bench::samples::active_before;
@@ -20,9 +22,9 @@ use std::sync::Arc;
 
 pub const JUDGES: [&Judge; 3] = [&PROVED, &TWO_ORDERS, &UNION_FIND];
 
-/// The rows that a call over a trace can give: 14 and 15 are the translation's.
-const ROWS: [usize; 14] = [1, 2, 3, 4, 5, 6, 7, 8, 9, 10, 11, 12, 13, LAST_ROW];
-const LAST_ROW: usize = 16;
+/// The rows that a call over a trace can give: 14 and 15 are the translation's, 17 to 19 a plan's.
+const ROWS: [usize; 15] = [1, 2, 3, 4, 5, 6, 7, 8, 9, 10, 11, 12, 13, 16, LAST_ROW];
+const LAST_ROW: usize = 20;
 
 /// The lengths of what is lent to the judge: the workspace, the two order buffers and, where the
 /// call has them, the cards.
@@ -34,12 +36,12 @@ pub fn needed(trace: &Trace) -> Lent {
     [WORKSPACE + n, n, n, LOCATIONS]
 }
 
-/// How often each answer was met: the two that are no refusal (clean and race, no and yes), and the
-/// rows from 1 on.
+/// How often each answer was met: the two that are no refusal (clean and race, no and yes, no pairs and
+/// some), and the rows from 1 on.
 #[derive(Default)]
-struct Counts {
-    plain: [usize; 2],
-    rows: [usize; LAST_ROW + 1],
+pub struct Counts {
+    pub plain: [usize; 2],
+    pub rows: [usize; LAST_ROW + 1],
 }
 
 impl Counts {
@@ -81,7 +83,8 @@ pub struct Test {
     meant: [usize; 2],
     /// How often row 12 turned back a halt that names each of these.
     misnamed: [usize; MISNAMED.len()],
-    /// Each trace that is judged is brought over too.
+    /// Of each trace that is judged the pairs are listed, and it is brought over.
+    pub pairs: Pairs,
     pub conversions: Conversions,
 }
 
@@ -104,6 +107,7 @@ impl Test {
             extent: Extent::default(),
             meant: [0; 2],
             misnamed: [0; MISNAMED.len()],
+            pairs: Pairs::new(seed),
             conversions: Conversions::new(seed),
         }
     }
@@ -112,10 +116,12 @@ impl Test {
         Buffer::drawn(&self.dirt, &mut self.rng, lent)
     }
 
-    /// The judge on a trace, with slices as long as needed or a little longer; and the conversion.
+    /// The judge on a trace, with slices as long as needed or a little longer; the call for pairs; and
+    /// the conversion.
     pub fn judge(&mut self, trace: &Trace) -> Answer {
         let lent = needed(trace).map(|need| need + self.rng.below(3));
         let said = self.judge_with(trace, lent)[0];
+        _ = self.pairs.all_of(&mut self.slow, trace);
         self.conversions.all_of(trace, said);
         said
     }
@@ -293,8 +299,14 @@ impl Test {
         first_difference(&call, trace, wanted, differences).map_or(Ok(told), Err)
     }
 
-    /// The judge and the conversion, now and then also on short buffers, and the ordering call on a few
-    /// pairs.
+    /// The call for pairs, with a workspace and two slices of these lengths.
+    pub fn pairs_with(&mut self, trace: &Trace, lent: [usize; 3]) -> Listing {
+        let found = pairs(&mut self.slow, trace);
+        self.pairs.list_with(trace, &found, lent)
+    }
+
+    /// The judge, the call for pairs and the conversion, now and then also on short buffers, and the
+    /// ordering call on a few pairs.
     pub fn both(&mut self, trace: &Trace, pairs: usize) -> Answer {
         let said = self.judge(trace);
         if self.rng.chance(1, 16) {
@@ -302,6 +314,7 @@ impl Test {
                 |need: usize| if self.rng.chance(1, 2) { need } else { self.rng.below(need + 1) };
             let lent = needed(trace).map(&mut lent);
             self.judge_with(trace, lent);
+            self.pairs_with(trace, [lent[0], lent[1], lent[2]]);
             self.conversions.convert_with(&trace.stored(), lent[0]);
             self.ordering_with(trace, lent[0], 0, 0);
         }
@@ -324,17 +337,21 @@ impl Test {
         }
     }
 
+    /// What was met of each call over a trace.
+    fn calls(&self) -> [&Counts; 4] {
+        [&self.judged, &self.carded, &self.pairs.met, &self.ordered]
+    }
+
     /// How often each answer was met.
     pub fn table(&self) -> String {
-        let calls = [&self.judged, &self.carded, &self.ordered];
         let line = |name: &str, count: &dyn Fn(&Counts) -> usize| {
-            let counts = calls.map(|counts| format!(" {:>9}", count(counts)));
-            format!("{name:>14}{}\n", counts.concat())
+            let counts = self.calls().map(|counts| format!(" {:>9}", count(counts)));
+            format!("{name:>17}{}\n", counts.concat())
         };
-        let mut table =
-            format!("{:>14} {:>9} {:>9} {:>9}\n", "answer", "judge", "cards", "ordering");
-        table += &line("clean / no", &|counts| counts.plain[0]);
-        table += &line("race / yes", &|counts| counts.plain[1]);
+        let names = ["judge", "cards", "pairs", "ordering"].map(|name| format!(" {name:>9}"));
+        let mut table = format!("{:>17}{}\n", "answer", names.concat());
+        table += &line("clean / none / no", &|counts| counts.plain[0]);
+        table += &line("race / some / yes", &|counts| counts.plain[1]);
         for row in ROWS {
             table += &line(&format!("refused {row}"), &|counts| counts.rows[row]);
         }
@@ -343,6 +360,7 @@ impl Test {
         table += &format!("links of the judge, 0 to {MAX_LINKS}:{}\n", links.concat());
         let [clean, race] = self.meant;
         table += &format!("held to what reads see: {clean} clean traces, {race} races\n");
+        table += &self.pairs.line();
         let named = MISNAMED.iter().zip(self.misnamed);
         let named: Vec<String> =
             named.map(|((name, _), count)| format!("{name} {count}")).collect();
@@ -351,10 +369,12 @@ impl Test {
 
     /// What a call can give but never gave, or the limits if they were not met.
     pub fn missing(&self) -> Option<String> {
-        // Row 4 belongs to the judge alone, row 13 to the ordering call, row 16 to cards.
-        let judged = self.judged.missing("the judge", &[13, 16]);
-        let carded = self.carded.missing("the judge with cards", &[13]);
-        let ordered = self.ordered.missing("the ordering call", &[4, 16]);
+        // Row 4 belongs to the judge alone, row 13 to the ordering call, row 16 to cards, row 20 to
+        // pairs.
+        let judged = self.judged.missing("the judge", &[13, 16, 20]);
+        let carded = self.carded.missing("the judge with cards", &[13, 20]);
+        let listed = self.pairs.met.missing("the call for pairs", &[4, 13, 16]);
+        let ordered = self.ordered.missing("the ordering call", &[4, 16, 20]);
         let never = self.links.iter().position(|&count| count == 0);
         let links = never.map(|links| format!("{links} links"));
         let limits = (self.extent != LIMITS).then(|| format!("{LIMITS:?}, but {:?}", self.extent));
@@ -362,20 +382,20 @@ impl Test {
         let never = self.misnamed.iter().position(|&count| count == 0);
         let misnamed =
             never.map(|at| format!("refused 12 of a halt that names {}", MISNAMED[at].0));
-        let converted = self.conversions.missing();
-        judged.or(carded).or(ordered).or(links).or(limits).or(meant).or(misnamed).or(converted)
+        let answers = judged.or(carded).or(listed).or(ordered);
+        let met = answers.or(links).or(limits).or(meant).or(misnamed);
+        met.or(self.pairs.missing()).or(self.conversions.missing())
     }
 
     pub fn closing_line(&self, translated: usize, planned: usize) -> String {
-        let [judged, carded, ordered] =
-            [&self.judged, &self.carded, &self.ordered].map(Counts::sum);
+        let [judged, carded, listed, ordered] = self.calls().map(Counts::sum);
         let converted = self.conversions.calls();
         let Extent { events, tasks } = self.extent;
         format!(
-            "{judged} calls of the judge, {carded} of the judge with cards, {ordered} of the \
-             ordering call, {converted} of the conversion, {translated} of the translation and \
-             {planned} of the plan reader, up to {events} events, {tasks} tasks and chains of \
-             {MAX_LINKS} links: no mismatch\n"
+            "{judged} calls of the judge, {carded} of the judge with cards, {listed} of the call \
+             for pairs, {ordered} of the ordering call, {converted} of the conversion, {translated} \
+             of the translation and {planned} of the plan reader, up to {events} events, {tasks} \
+             tasks and chains of {MAX_LINKS} links: no mismatch\n"
         )
     }
 }
@@ -393,7 +413,7 @@ pub fn answer_difference<const VALUES: usize>(
     (told != wanted).then(|| format!("{told:?}, wanted {wanted:?}"))
 }
 
-fn trace_difference(left: &Trace, lent: &Trace) -> Option<String> {
+pub fn trace_difference(left: &Trace, lent: &Trace) -> Option<String> {
     (left != lent).then(|| "changed".to_string())
 }
 

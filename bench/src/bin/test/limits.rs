@@ -31,6 +31,7 @@ fn events(test: &mut Test) {
     known(test.ordering(&over, 0, 0), Ordering::Refused(2, 0), &over);
     // The first condition that holds decides.
     known(test.judge_with(&over, [0; 4]), [Answer::Refused(2, 0); 2], &over);
+    known(test.pairs_with(&over, [0; 3]), Listing::Refused(2, 0), &over);
     known(test.ordering_with(&over, 0, 0, 0), Ordering::Refused(2, 0), &over);
 }
 
@@ -99,6 +100,7 @@ fn buffer_lengths(test: &mut Test) {
                     for cards in [0, LOCATIONS - 1, LOCATIONS, LOCATIONS + 1] {
                         test.judge_with(&trace, [workspace, first, second, cards]);
                     }
+                    test.pairs_with(&trace, [workspace, first, second]);
                 }
             }
             test.ordering_with(&trace, workspace, 0, short);
@@ -174,6 +176,8 @@ fn slice_lengths(test: &mut Test) {
         trace.operands.truncate(operands);
         for lent in [[0; 4], [WORKSPACE + OVER, OVER, OVER, LOCATIONS]] {
             known(test.judge_with(&trace, lent), [Answer::Refused(1, 0); 2], &trace);
+            let listed = test.pairs_with(&trace, [lent[0], lent[1], lent[2]]);
+            known(listed, Listing::Refused(1, 0), &trace);
             known(test.ordering_with(&trace, lent[0], 0, 0), Ordering::Refused(1, 0), &trace);
         }
     }

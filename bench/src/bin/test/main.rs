@@ -1,9 +1,9 @@
 //! Compares the linked judges with the all-ancestors judge, on document 01's runs, on every short
 //! trace, at the limits, on chains of joins, on counters, on nests, on long traces and on random ones,
-//! whole and damaged; on the same traces the conversions with a slow one; the library's translation of
-//! texts with the slow judge's own; and the plan readers with a slow one and with what plans mean. The
-//! first difference is printed with its trace or text and ends the test with status 1. `--seed N`
-//! draws others, `--times N` draws more.
+//! whole and damaged; on the same traces the lists of close pairs and the conversions with slow ones;
+//! the library's translation of texts with the slow judge's own; and the plan readers with a slow one
+//! and with what plans mean. The first difference is printed with its trace or text and ends the test
+//! with status 1. `--seed N` draws others, `--times N` draws more.
 
 mod buffer;
 mod chains;
@@ -13,6 +13,7 @@ mod document;
 mod halts;
 mod limits;
 mod meaning;
+mod pairs;
 mod plans;
 mod plants;
 mod reach;
@@ -25,11 +26,12 @@ use compare::{known, Test};
 use plans::PLANS;
 use racejudge_bench::ffi;
 use racejudge_bench::line::{names_resumed, Line};
+use racejudge_bench::pairs::pairs;
 use racejudge_bench::program::{fail, print};
 use racejudge_bench::samples;
 use racejudge_bench::trace::*;
 use racejudge_bench::words;
-use racejudge_bench::workloads::WORKLOADS;
+use racejudge_bench::workloads::{Make, RACING, WORKLOADS};
 use reading::Reading;
 use texts::TEXTS;
 
@@ -84,14 +86,16 @@ fn short_events(trace: &Trace, forked: u16) -> Vec<(u8, u16)> {
 
 /// The workloads of the benchmark, whole and damaged, and long random traces.
 fn long_traces(test: &mut Test) {
-    for workload in &WORKLOADS {
-        for n in [1_024, 2_048, 8_192, MAX_EVENTS] {
-            let trace = (workload.make)(n, &mut test.rng);
-            let said = test.both(&trace, 3);
-            let on = format_args!("{}: {trace}", workload.name);
-            known(said, (workload.expected)(n), on);
-            let damaged = samples::damage(&mut test.rng, &trace);
-            test.both(&damaged, 1);
+    for n in [1_024, 2_048, 8_192, MAX_EVENTS] {
+        for workload in &WORKLOADS {
+            let (trace, said) = whole_and_damaged(test, workload.make, n);
+            known(said, (workload.expected)(n), format_args!("{}: {trace}", workload.name));
+        }
+        for racing in &RACING {
+            let (trace, _) = whole_and_damaged(test, racing.make, n);
+            let pairs = pairs(&mut test.slow, &trace).map(|pairs| pairs.len());
+            let counted = pairs.is_ok_and(|pairs| (racing.pairs)(n).contains(&pairs));
+            known(counted, true, format_args!("{}, {pairs:?} pairs: {trace}", racing.name));
         }
     }
     for care in [100, 100, 100, 97] {
@@ -99,6 +103,15 @@ fn long_traces(test: &mut Test) {
         let trace = samples::valid(&mut test.rng, MAX_EVENTS - TASKS, care);
         test.both(&trace, 2);
     }
+}
+
+/// A workload, and what is said of it.
+fn whole_and_damaged(test: &mut Test, make: Make, n: usize) -> (Trace, Answer) {
+    let trace = make(n, &mut test.rng);
+    let said = test.both(&trace, 3);
+    let damaged = samples::damage(&mut test.rng, &trace);
+    test.both(&damaged, 1);
+    (trace, said)
 }
 
 fn random_traces(test: &mut Test, times: usize) {
@@ -138,6 +151,7 @@ fn main() {
     let [rules, conversions] = halts::all(&mut test);
     print(&format!("{rules} wrong rules for halts noticed\n"));
     print(&format!("{conversions} wrong conversions noticed\n"));
+    print(&format!("{} wrong lists of pairs noticed\n", pairs::all(&mut test)));
     long_traces(&mut test);
     random_traces(&mut test, times);
     print(&format!("{} wrong traces of plans noticed\n", reach::wrong_traces(&mut test)));

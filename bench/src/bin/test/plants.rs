@@ -6,14 +6,17 @@ use crate::document::{
     trace, COUNTED, JOINED_BY_WAY_OF_A_SIBLING, JOINS_A_SIBLING, SUM_AND_READ, SUM_AND_WRITE,
     TWO_READERS, TWO_SUMS, WRITES_TWICE, WRITE_AMONG_SUMS,
 };
+use crate::pairs::LISTERS;
 use crate::plans::PLANS;
 use crate::reading::{Form, Reading, Text, Wanted};
 use crate::texts::TEXTS;
 use racejudge_bench::ancestors::Outcome;
 use racejudge_bench::convert::{convert, Converted};
+use racejudge_bench::pairs::{listed, pairs, Listed};
 use racejudge_bench::program::fail;
 use racejudge_bench::trace::*;
 use std::fmt::Debug;
+use std::mem::swap;
 
 /// Makes one thing of what is wanted wrong.
 type Change<T> = fn(&mut Outcome<T>);
@@ -158,6 +161,85 @@ const ORDERED: [Change<Ordering>; 3] = [
     |wanted| wanted.cleared -= 1,
     |wanted| wanted.cleared += 1,
 ];
+
+type ListChange = fn(&mut Listed);
+
+/// Two pairs, then a rule is broken.
+const BROKEN: &str = "0 fork 1, 1 write 5, 1 halt, 0 read 5, 0 write 5, 0 join 2";
+
+/// A run, how many cells the two slices have, and what is made wrong of what is wanted: the answer,
+/// each slice in a cell of the list and in the first behind it, the order, the cleared cells; what is
+/// written though a slice is too short, or though a rule is broken; and that 20 comes first.
+const LISTED: [(&str, [usize; 2], &[ListChange]); 6] = [
+    (
+        WRITES_TWICE,
+        [3, 3],
+        &[
+            |wanted| wanted.said = Listing::Pairs(1),
+            |wanted| wanted.said = Listing::Pairs(3),
+            |wanted| wanted.said = Listing::Refused(20, 0),
+            |wanted| wanted.earlier[0] += 1,
+            |wanted| wanted.later[1] += 1,
+            |wanted| wanted.earlier.swap(0, 1),
+            |wanted| swap(&mut wanted.earlier, &mut wanted.later),
+            |wanted| wanted.earlier.truncate(1),
+            |wanted| wanted.later.truncate(1),
+            |wanted| wanted.earlier.push(0),
+            |wanted| wanted.later.push(0),
+            |wanted| write(wanted, &[], &[]),
+            |wanted| write(wanted, &[1], &[4]),
+            |wanted| wanted.cleared -= 1,
+            |wanted| wanted.cleared += 1,
+        ],
+    ),
+    (WRITES_TWICE, [2, 2], &[|wanted| wanted.said = Listing::Refused(20, 0)]),
+    (WRITES_TWICE, [1, 2], SHORT),
+    (WRITES_TWICE, [2, 1], SHORT),
+    (
+        TWO_READERS,
+        [1, 1],
+        &[
+            |wanted| {
+                wanted.said = Listing::Pairs(1);
+                write(wanted, &[1], &[3]);
+            },
+            |wanted| wanted.earlier.push(0),
+            |wanted| wanted.later.push(0),
+            |wanted| wanted.cleared -= 1,
+        ],
+    ),
+    (
+        BROKEN,
+        [1, 2],
+        &[
+            |wanted| wanted.said = Listing::Refused(20, 0),
+            |wanted| wanted.said = Listing::Refused(11, 0),
+            |wanted| wanted.said = Listing::Refused(7, 5),
+            |wanted| wanted.said = Listing::Pairs(2),
+            |wanted| write(wanted, &[1], &[3]),
+            |wanted| wanted.cleared = 0,
+            |wanted| wanted.cleared += 1,
+        ],
+    ),
+];
+
+/// Where there are two pairs, and a slice has one cell.
+const SHORT: &[ListChange] = &[
+    |wanted| wanted.said = Listing::Pairs(2),
+    |wanted| wanted.said = Listing::Pairs(1),
+    |wanted| wanted.said = Listing::Refused(20, 4),
+    |wanted| wanted.said = Listing::Refused(4, 0),
+    |wanted| wanted.earlier.push(1),
+    |wanted| wanted.later.push(4),
+    |wanted| write(wanted, &[1], &[4]),
+    |wanted| wanted.cleared = 0,
+    |wanted| wanted.cleared -= 1,
+];
+
+/// Other pairs than those that are wanted.
+fn write(wanted: &mut Listed, earlier: &[u16], later: &[u16]) {
+    (wanted.earlier, wanted.later) = (earlier.to_vec(), later.to_vec());
+}
 
 type ConvertChange = fn(&mut Converted);
 
@@ -319,8 +401,10 @@ pub fn all() -> usize {
     let mut test = Test::new(1);
     // A cell that is not cleared is not 0, and a record that is not written is no card.
     test.dirt.fill(u16::MAX);
+    test.pairs.dirt.fill(u16::MAX);
     test.conversions.dirt.fill(u16::MAX);
-    judged(&mut test) + carded(&mut test) + ordered(&mut test) + converted(&mut test) + read()
+    let traced = judged(&mut test) + carded(&mut test) + ordered(&mut test) + paired(&mut test);
+    traced + converted(&mut test) + read()
 }
 
 /// What the judge needs, with a cell of the workspace more and so many cards.
@@ -367,6 +451,22 @@ fn ordered(test: &mut Test) -> usize {
         noticed(test.ordered_by(judge, &trace, workspace, pair, &wanted), &wanted);
     }
     JUDGES.len() * ORDERED.len()
+}
+
+fn paired(test: &mut Test) -> usize {
+    for (run, [earlier, later], changes) in LISTED {
+        let trace = trace(run);
+        let found = pairs(&mut test.slow, &trace);
+        let lent = [WORKSPACE + trace.len() + 1, earlier, later];
+        for change in changes {
+            let mut wanted = listed(&trace, &found, lent);
+            change(&mut wanted);
+            for lister in LISTERS {
+                noticed(test.pairs.listed_by(lister, &trace, lent, &wanted), &wanted);
+            }
+        }
+    }
+    LISTERS.len() * LISTED.iter().map(|(.., changes)| changes.len()).sum::<usize>()
 }
 
 fn converted(test: &mut Test) -> usize {

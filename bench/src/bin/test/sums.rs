@@ -67,10 +67,14 @@ pub const CONFLICTING: [(u8, u8); 7] = [
     (WRITE, SUM),
 ];
 
+/// Each kind of access with each.
+pub fn nine_pairs() -> impl Iterator<Item = (u8, u8)> {
+    ACCESSES.into_iter().flat_map(|one| ACCESSES.map(|other| (one, other)))
+}
+
 /// Each shape with each of the nine pairs of kinds.
 fn shaped() -> impl Iterator<Item = (Shape, (u8, u8))> {
-    let kinds = ACCESSES.into_iter().flat_map(|one| ACCESSES.map(|other| (one, other)));
-    kinds.flat_map(|kinds| SHAPES.map(|shape| (shape, kinds)))
+    nine_pairs().flat_map(|kinds| SHAPES.map(|shape| (shape, kinds)))
 }
 
 /// The two accesses to one location and to two.
@@ -177,7 +181,7 @@ fn full_counters(test: &mut Test) {
 }
 
 /// Wrong judges: for each what conflicts that should not, or does not that should.
-const WRONG: [(&str, Conflict); 12] = [
+pub const WRONG: [(&str, Conflict); 12] = [
     ("a sum conflicts with a sum", |s, t| conflict(s, t) || (s, t) == (SUM, SUM)),
     ("a read does not conflict with an earlier sum", |s, t| {
         conflict(s, t) && (s, t) != (SUM, READ)

@@ -1,6 +1,7 @@
 //! Which events and tasks are drawn. Short runs are drawn whole; of a long one what the answer
 //! needs, so that the picture stays readable.
 
+use super::listing::Listing;
 use super::story::Story;
 use racejudge::{Kind, Verdict};
 use std::collections::HashMap;
@@ -84,16 +85,30 @@ impl<'a> Picker<'a> {
     }
 
     fn cut(&mut self) {
-        match (self.story.answer, self.story.refused) {
-            (Ok(Verdict::Race { .. }), _) => self.cut_to_race(),
-            (_, Some(p)) => {
+        let story = self.story;
+        match (story.answer, story.refused, &story.listing) {
+            (.., Some(listing)) => self.cut_to_pairs(listing),
+            (Ok(Verdict::Race { .. }), ..) => self.cut_to_race(),
+            (_, Some(p), _) => {
                 let from = p.saturating_sub(CUT_RUN);
                 (from..=p).rev().for_each(|p| _ = self.pick(p));
                 self.complete(p);
             }
-            _ => _ = (0..self.story.drawable().min(CUT_RUN)).all(|p| self.pick(p)),
+            _ => _ = (0..story.drawable().min(CUT_RUN)).all(|p| self.pick(p)),
         }
         self.fill_gaps();
+    }
+
+    fn cut_to_pairs(&mut self, listing: &Listing) {
+        self.room = ASIDE;
+        listing.chosen().for_each(|pair| self.pick_all([pair.s, pair.t]));
+        self.room = CUT;
+        let graph = self.story.graph;
+        let shown = graph.columns().iter().filter(|task| !self.is_hidden(task));
+        let forks: Vec<usize> = shown.filter_map(|&task| graph.forked_at(task)).collect();
+        self.pick_all(forks);
+        let last = self.drawn.iter().rposition(|&drawn| drawn).unwrap_or_default();
+        self.complete(last);
     }
 
     fn cut_to_race(&mut self) {

@@ -26,6 +26,7 @@ impl Figure<'_> {
         self.lines();
         self.rows();
         self.race();
+        self.brackets();
         self.layout.bottom()
     }
 
@@ -237,6 +238,17 @@ impl Figure<'_> {
         let middle = (top + bottom) / 2;
         self.canvas.rect((x - half, middle - 11), (2 * half, 22), "plate");
         self.canvas.text((x, middle), "hot mid", NO_ORDER);
+    }
+
+    /// The connections of the pairs that are listed.
+    fn brackets(&mut self) {
+        let (brackets, end) = &self.layout.brackets;
+        for bracket in brackets {
+            let ends = [bracket.pair.s, bracket.pair.t].map(|p| self.layout.y_of(p));
+            let [Some(top), Some(bottom)] = ends else { continue };
+            let x = self.layout.bracket_x(bracket);
+            self.canvas.line(&[(*end, top), (x, top), (x, bottom), (*end, bottom)], "bracket");
+        }
     }
 }
 

@@ -2,6 +2,7 @@
 //! task. All numbers are pixels.
 
 use super::choice::Choice;
+use super::listing::Bracket;
 use super::story::{Mark, Story};
 use super::strips::Strips;
 use super::text::{bold_width, width};
@@ -19,6 +20,9 @@ const SMALL: i32 = 11;
 pub const LABEL_GAP: i32 = 11;
 /// The same for events with a large sign, whose labels are bold.
 pub const SIGN_GAP: i32 = 17;
+/// From one bracket to the next outer one, and from the innermost to where it ends.
+const LANE: i32 = 11;
+const STUB: i32 = 14;
 /// Wide enough for the sentences above the figure.
 const NARROWEST: i32 = 640;
 /// The column heads have two lines: the upper one says how many tasks are left out between two.
@@ -66,6 +70,8 @@ pub struct Layout {
     /// Where the connection of the two accesses runs, if there is a race, and half the width of the
     /// plate on it.
     pub lane: Option<(i32, i32)>,
+    /// Those that connect the pairs, where pairs are listed, and where they end at their right.
+    pub brackets: (Vec<Bracket>, i32),
     /// The left of the notes.
     pub notes: i32,
     pub width: i32,
@@ -82,7 +88,10 @@ impl Layout {
         let right = plan.as_ref().map_or(table.right, |(strips, left)| left + strips.width());
         let half = bold_width(NO_ORDER, LABEL) / 2 + 7;
         let lane = story.pair.map(|_| (right + 14 + half, half));
-        let left = lane.map_or(right + 20, |(x, half)| x + half + 2);
+        let brackets = brackets(story, choice);
+        let lanes = brackets.iter().map(|bracket| bracket.lane as i32 + 1).max();
+        let end = right + 14 + lanes.map_or(0, |lanes| LANE * (lanes - 1) + STUB);
+        let left = lane.map_or(end + 6, |(x, half)| x + half + 2);
         let mut layout = Layout {
             rows,
             row_of,
@@ -94,6 +103,7 @@ impl Layout {
             table,
             plan,
             lane,
+            brackets: (brackets, end),
             notes: 0,
             width: 0,
             top: 0,
@@ -180,10 +190,21 @@ impl Layout {
         self.columns.get(*self.column_of.get(&task)?).map(|column| column.x)
     }
 
+    /// The left of a bracket.
+    pub fn bracket_x(&self, bracket: &Bracket) -> i32 {
+        self.brackets.1 - STUB - LANE * bracket.lane as i32
+    }
+
     /// The middle of the row above the second access.
     pub fn missing_y(&self) -> Option<i32> {
         self.rows.iter().position(|row| *row == Row::Missing).map(|row| self.y(row))
     }
+}
+
+/// Those between events that are drawn.
+fn brackets(story: &Story, choice: &Choice) -> Vec<Bracket> {
+    let is_drawn = |p: usize| choice.drawn.get(p) == Some(&true);
+    story.listing.as_ref().map_or(Vec::new(), |listing| listing.brackets(is_drawn))
 }
 
 /// The rows from top to bottom, and each event's row.

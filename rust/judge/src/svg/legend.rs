@@ -28,6 +28,8 @@ enum Sign {
     ToT,
     Missing,
     Pale,
+    Racing,
+    Bracket,
 }
 
 const ROWS_AND_LINES: &str = "Rows follow this run; lines hold in all runs. \
@@ -59,6 +61,10 @@ fn signs(story: &Story) -> Vec<(Sign, String)> {
     if story.planned.is_some() {
         signs.push((Sign::Operator(Operator::Series), "S: one after the other".into()));
         signs.push((Sign::Operator(Operator::Parallel), "P: side by side".into()));
+    }
+    if story.listing.is_some() {
+        signs.push((Sign::Racing, "an access that races".into()));
+        signs.push((Sign::Bracket, "these two race".into()));
     }
     let Some((s, t)) = story.pair else { return signs };
     if story.why.is_some() {
@@ -120,6 +126,14 @@ fn draw(canvas: &mut Canvas, sign: &Sign, (x, y): (i32, i32)) {
             canvas.line(&[(x - 5, y), (x + 17, y)], "missing");
         }
         Sign::Pale => canvas.line(&across, "line life pale"),
+        Sign::Racing => {
+            canvas.circle((x, y), 11, "ring");
+            canvas.circle((x, y), 6, "full plain");
+        }
+        Sign::Bracket => {
+            canvas
+                .line(&[(x + 6, y - 9), (x - 6, y - 9), (x - 6, y + 9), (x + 6, y + 9)], "bracket");
+        }
     }
 }
 

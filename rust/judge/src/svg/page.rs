@@ -21,6 +21,7 @@ pub fn page(story: &Story, choice: &Choice, title: &str) -> String {
     let inner = layout.width - 2 * MARGIN;
     let mut told = story.summary();
     told.extend(story.extent(choice.events(), choice.tasks()));
+    told.extend(story.connected(&choice.drawn, layout.brackets.0.len()));
     told.extend(layout.plan.iter().filter(|(strips, _)| strips.is_cut).map(|_| DEEPER.into()));
     let said: Vec<String> = told.iter().flat_map(|text| wrap(text, SAY, inner)).collect();
     let mut canvas = Canvas::default();

@@ -1,9 +1,10 @@
 //! What is to be told of a run: how each event and each arc concerns the race.
 
+use super::listing::Listing;
 use crate::answer::Answer;
 use crate::graph::Graph;
 use crate::phrases::place;
-use crate::study::{Clash, Planned};
+use crate::study::{Clash, Listed, Planned};
 use crate::why::Why;
 use racejudge::{Leaf, Refusal, Trace, Verdict};
 
@@ -38,7 +39,7 @@ impl Tone {
 /// Why an event stands out.
 #[derive(Clone, Copy, Debug, PartialEq, Eq)]
 pub enum Mark {
-    /// One of the two accesses.
+    /// One of the two accesses, or of the accesses of all pairs.
     Racing,
     /// The fork that parts them.
     Parted,
@@ -57,6 +58,10 @@ pub struct Story<'a> {
     pub why: Option<&'a Why>,
     /// The plan that the run is of, if it is of one.
     pub planned: Option<&'a Planned<'a>>,
+    /// What is listed of the run, if its close pairs are.
+    pub listed: Option<&'a Listed<'a>>,
+    /// The close pairs, where there are any. The race of the judge is then not told of by itself.
+    pub listing: Option<Listing<'a>>,
     /// The two accesses of a race.
     pub pair: Option<(usize, usize)>,
     /// The event that breaks a rule: it stands behind those of the graph.
@@ -86,19 +91,32 @@ impl<'a> Story<'a> {
             Ok(Verdict::Race { s, t, .. }) if s < t && t < graph.len() => Some((s, t)),
             _ => None,
         };
+        let mut story = Story::plain(trace, graph, answer);
+        story.tell_race(pair, why.filter(|_| pair.is_some()));
+        story
+    }
+
+    /// With no race.
+    fn plain(trace: &'a Trace, graph: &'a Graph, answer: &'a Answer) -> Self {
         let refused = match *answer {
             Err(Refusal { row: 5..=12, position }) => {
                 Some(position).filter(|&p| p == graph.len() && p < trace.len())
             }
             _ => None,
         };
-        let why = why.filter(|_| pair.is_some());
-        let (onward, parts) = (Vec::new(), Vec::new());
-        let planned = None;
-        let mut story = Story { trace, graph, answer, why, planned, pair, refused, onward, parts };
-        story.parts = vec![Part { tone: story.rest_tone(), before: None }; graph.len()];
-        story.tell_parts();
-        story
+        Story {
+            trace,
+            graph,
+            answer,
+            why: None,
+            planned: None,
+            listed: None,
+            listing: None,
+            pair: None,
+            refused,
+            onward: Vec::new(),
+            parts: vec![Part { tone: Tone::Plain, before: None }; graph.len()],
+        }
     }
 
     /// None where there is no plan.
@@ -108,9 +126,25 @@ impl<'a> Story<'a> {
         Some(Story { planned: Some(planned), ..story })
     }
 
+    /// None where there is no trace.
+    pub fn of_pairs(listed: &'a Listed<'a>) -> Option<Self> {
+        let (study, scene) = (&listed.study, listed.study.scene.as_ref()?);
+        let pairs = listed.answer.as_ref().ok();
+        let story = match pairs.and_then(|pairs| Listing::of(scene, pairs)) {
+            Some(listing) => {
+                let plain = Story::plain(scene.trace, &scene.graph, &listed.verdict);
+                Story { listing: Some(listing), ..plain }
+            }
+            None => Story::new(scene.trace, &scene.graph, &listed.verdict, study.why.as_ref()),
+        };
+        Some(Story { listed: Some(listed), ..story })
+    }
+
     /// Finds the events that reach one of the two accesses, and those on the ways to them.
-    fn tell_parts(&mut self) {
-        let Some((s, t)) = self.pair else { return };
+    fn tell_race(&mut self, pair: Option<(usize, usize)>, why: Option<&'a Why>) {
+        let Some((s, t)) = pair else { return };
+        (self.pair, self.why) = (pair, why);
+        self.parts.iter_mut().for_each(|part| part.tone = Tone::Pale);
         for reaching in [self.graph.reaching(s), self.graph.reaching(t)] {
             let reached = self.parts.iter_mut().zip(reaching).filter(|(_, reaches)| *reaches);
             reached.for_each(|(part, _)| part.tone = Tone::Plain);
@@ -167,7 +201,8 @@ impl<'a> Story<'a> {
     }
 
     pub fn mark(&self, p: usize) -> Option<Mark> {
-        if self.pair.is_some_and(|(s, t)| p == s || p == t) {
+        let is_listed = self.listing.as_ref().is_some_and(|listing| listing.is_racing(p));
+        if is_listed || self.pair.is_some_and(|(s, t)| p == s || p == t) {
             Some(Mark::Racing)
         } else if self.refused == Some(p) {
             Some(Mark::Refused)

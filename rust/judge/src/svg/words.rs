@@ -4,7 +4,7 @@ use super::story::{Mark, Story};
 use crate::answer;
 use crate::phrases::{capital, clean_before, deed, grouped, has_sums, leaf};
 use crate::study::Clash;
-use racejudge::{Event, Kind, Refusal, Verdict};
+use racejudge::{Event, Kind, Refusal, Verdict, CLOSE};
 
 /// What connects the two accesses of a race.
 pub const NO_ORDER: &str = "no order";
@@ -73,11 +73,17 @@ impl Story<'_> {
 
     /// The proved answer's own line.
     pub fn answer_line(&self) -> String {
-        answer::line(self.answer, self.trace.len())
+        match self.listed {
+            Some(listed) => listed.line(),
+            None => answer::line(self.answer, self.trace.len()),
+        }
     }
 
     /// The answer in a few sentences.
     pub fn summary(&self) -> Vec<String> {
+        if let Some(listing) = &self.listing {
+            return vec![listing.groups.summary()];
+        }
         match self.answer {
             Ok(Verdict::Clean { .. }) if self.trace.is_empty() => {
                 vec!["There are no events.".into()]
@@ -93,14 +99,16 @@ impl Story<'_> {
         let mut told = vec![format!("{}.", capital(&refusal.to_string()))];
         if let Some(p) = self.refused {
             told.extend(self.instead(refusal.row, p));
-            told.push(clean_before(p));
+            // The list is refused also where a race comes before.
+            let has_race = self.listed.is_some_and(|listed| listed.first_race().is_some());
+            told.extend((!has_race).then(|| clean_before(p)));
         }
         vec![told.join(" ")]
     }
 
     fn race_summary(&self, s: usize, t: usize) -> Vec<String> {
         let act = |p: usize| self.trace.event(p).map(deed).unwrap_or_default();
-        let mut told: Vec<String> = self.meeting().into_iter().collect();
+        let mut told: Vec<String> = self.meeting().into_iter().chain(self.far_only()).collect();
         told.push(format!(
             "Event {s} ({}) and event {t} ({}): no path of forks and joins leads from one to the \
              other, so either can come first.",
@@ -113,6 +121,30 @@ impl Story<'_> {
             told.extend(self.lacking(t));
         }
         told
+    }
+
+    /// Why no pair is listed though there is a race.
+    fn far_only(&self) -> Option<String> {
+        self.listed?.far_race()?;
+        Some(format!(
+            "No two accesses race that are at most {CLOSE} events apart. These are farther apart."
+        ))
+    }
+
+    /// How many of the accesses that race are drawn and of the pairs are connected, where that is
+    /// less than could be.
+    pub fn connected(&self, drawn: &[bool], brackets: usize) -> Option<String> {
+        let listing = self.listing.as_ref()?;
+        let racing = listing.accesses(|_| true);
+        let marked = listing.accesses(|p| drawn.get(p) == Some(&true));
+        let of = |shown: usize, all: usize| format!("{} of the {}", grouped(shown), grouped(all));
+        let marks = format!("Marked are {} accesses that race. ", of(marked, racing));
+        let connects = format!("Brackets connect {} pairs.", of(brackets, listing.pairs.len()));
+        match (marked < racing, brackets < listing.pairs.len()) {
+            (true, _) => Some(marks + &connects),
+            (_, true) => Some(connects),
+            _ => None,
+        }
     }
 
     /// Where the two leaves of a plan's race meet.
@@ -150,8 +182,8 @@ impl Story<'_> {
             return None;
         }
         let of = |drawn: usize, all: usize| format!("{} of {}", grouped(drawn), grouped(all));
-        let purpose = match self.answer {
-            Ok(Verdict::Race { .. }) => "Cut to what the race needs",
+        let purpose = match (self.answer, &self.listing) {
+            (Ok(Verdict::Race { .. }), None) => "Cut to what the race needs",
             _ => "Not all is drawn",
         };
         let (events, tasks) = (of(events, all_events), of(tasks, all_tasks));
