@@ -5,6 +5,7 @@ use mathlib.Core.Path.{_≡_, refl, sym, ap, ap₂, _∙_}
 use mathlib.Core.Bool.{Bool, true, false}
 use mathlib.Core.List.{List, [], _∷_, _++_, append-nil, map, map-append}
 use native.Mathlib.Omega.{arith}
+use native.Mathlib.Nat.{suc-mul, mul-suc}
 use lib.ListN.{length, length-append, length-map}
 use lib.Seq.{sets, length-sets}
 use Rattle.trace.specs.Orders.{countUp, chosen}
@@ -26,6 +27,18 @@ module _ (test : ℕ → ℕ → Bool) (t : ℕ) where
   pub at-few : length (pairsAt test t) ≤ CLOSE
   unfolding pairsAt
   at-few =
+      let e : (t - CLOSE) + (t - (t - CLOSE)) ≡ t = omega arith in
+      omega (
+        arith,
+        length-map (chosen (λ s. test s t) (t - CLOSE) t) (λ s. pair s t),
+        ap length (ap (chosen (λ s. test s t) (t - CLOSE)) e),
+        chosen-few (λ s. test s t) (t - CLOSE) (t - (t - CLOSE)),
+      )
+
+  -- There are no more than events before t.
+  at-fewer : length (pairsAt test t) ≤ t
+  unfolding pairsAt
+  at-fewer =
       let e : (t - CLOSE) + (t - (t - CLOSE)) ≡ t = omega arith in
       omega (
         arith,
@@ -61,6 +74,23 @@ module _ (test : ℕ → ℕ → Bool) where
   unfolding pairsBelow
   below-few zero = omega arith
   below-few (suc t) = omega (arith, below-few t, at-few test t, length-append (pairsBelow test t) (pairsAt test t))
+
+  -- SO MANY CELLS SUFFICE (RACEJUDGE_MAX_PAIRS of the header): n (n - 1) / 2 for up to 256 events, and 256 n - 32,896 for more.
+  pub below-half : (n : ℕ) → length (pairsBelow test n) + length (pairsBelow test n) + n ≤ n * n
+  unfolding pairsBelow
+  below-half zero = omega arith
+  below-half (suc t) =
+      let square : suc t * suc t ≡ t * t + t + t + 1 = square-next t in
+      omega (arith, below-half t, at-fewer test t, length-append (pairsBelow test t) (pairsAt test t))
+    where
+      square-next : (t : ℕ) → suc t * suc t ≡ t * t + t + t + 1
+      square-next t = simp (suc-mul, mul-suc) (omega arith)
+
+  pub below-most : (k : ℕ) → length (pairsBelow test (CLOSE + k)) + 32896 ≤ CLOSE * (CLOSE + k)
+  below-most zero = omega (arith, below-half CLOSE)
+  below-most (suc k) =
+      let e : CLOSE + suc k ≡ CLOSE + k + 1 = omega arith in
+      omega (arith, below-most k, at-few test (CLOSE + k), below-length (CLOSE + k), ap length (ap (pairsBelow test) e))
 
   pub below-grows : (t k : ℕ) → length (pairsBelow test t) ≤ length (pairsBelow test (t + k))
   below-grows t zero = let e : t + 0 ≡ t = omega arith in omega (arith, ap length (ap (pairsBelow test) e))
