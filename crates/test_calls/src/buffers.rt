@@ -49,8 +49,8 @@ struct Expected {
     wrong: usize,
 }
 
-// More cells than any buffer has.
-const NOWHERE: usize = 65536;
+// More cells than any buffer has, and more words than any memory.
+const NOWHERE: usize = 1048576;
 
 fn expect(call: Call, buffer: usize, lent: usize, from: usize, first: usize) -> Expected {
     let wrong = if call.plant.buffer == buffer {
@@ -101,8 +101,23 @@ pub fn holds_zeros(ws: &[u16], call: Call, want: Reply, memory: &[usize]) -> boo
     holds(
         ws,
         memory,
-        expect(call, WORKSPACE, call.sizes.ws, test_slow::MEMORY, zeros),
+        expect(call, WORKSPACE, call.sizes.ws, NOWHERE, zeros),
     )
+}
+
+// Whether two buffers are as a call must leave them: their first n cells are those of the memory, of the first from ORDERS on and of the second from a place
+// on.
+pub fn holds_both(
+    first: &[u16],
+    second: &[u16],
+    call: Call,
+    n: usize,
+    place: usize,
+    memory: &[usize],
+) -> bool {
+    let one = expect(call, FIRST, call.sizes.first, test_slow::ORDERS, n);
+    let other = expect(call, SECOND, call.sizes.second, place, n);
+    holds(first, memory, one) & holds(second, memory, other)
 }
 
 // Whether the order buffers are as the judge must leave them: after a race at t each has its order in t + 1 cells.
@@ -114,15 +129,7 @@ pub fn holds_orders(
     memory: &[usize],
 ) -> bool {
     let n = if want.case == RACE { more(want.b) } else { 0 };
-    let one = expect(call, FIRST, call.sizes.first, test_slow::ORDERS, n);
-    let other = expect(
-        call,
-        SECOND,
-        call.sizes.second,
-        plus(test_slow::ORDERS, n),
-        n,
-    );
-    holds(first, memory, one) & holds(second, memory, other)
+    holds_both(first, second, call, n, plus(test_slow::ORDERS, n), memory)
 }
 
 // Whether the operands are as the conversion must leave them: those of the memory from a place on, and some behind those that are lent.

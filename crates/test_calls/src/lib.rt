@@ -18,8 +18,8 @@ use trace::Answer;
 use trace::Ordering;
 use trace::Refusal;
 
-// An answer in numbers. The case is CLEAN, RACE or REFUSED + number for the judge, and YES, NO or REFUSED + number for the ordering call. The links are 0 where
-// the answer has none.
+// An answer in numbers. The case is CLEAN, RACE or REFUSED + number for the judge, YES, NO or REFUSED + number for the ordering call, and LISTED or REFUSED +
+// number for the list of pairs. The links are 0 where the answer has none.
 pub struct Reply {
     pub case: usize,
     pub a: usize,
@@ -35,6 +35,8 @@ pub const YES: usize = 0;
 
 pub const NO: usize = 1;
 
+pub const LISTED: usize = 0;
+
 pub const REFUSED: usize = 2;
 
 // Not yet known: the slow judge is to say it. The links that stand with it are added to its own: so many too many are expected, on purpose.
@@ -48,7 +50,7 @@ pub fn make_reply(case: usize, a: usize, b: usize, links: usize) -> Reply {
 }
 
 // "with a refusal, 0"
-fn reply_of_refusal(refusal: Refusal) -> Reply {
+pub fn reply_of_refusal(refusal: Refusal) -> Reply {
     make_reply(plus(REFUSED, refusal.number), refusal.position, 0, 0)
 }
 

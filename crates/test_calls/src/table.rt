@@ -5,6 +5,7 @@ use crate::DUE;
 use crate::EARLIEST;
 use crate::FIRST;
 use crate::LATEST;
+use crate::LISTED;
 use crate::NO;
 use crate::NO_BUFFER;
 use crate::OPERANDS;
@@ -41,11 +42,12 @@ fn number_of(word: usize) -> usize {
         0x6a6f696e => JOIN,
         0x68616c74 => HALT,
         0x73756d => SUM,
-        // CLEAN, RACE, YES, NO, REFUSED, SLOW
+        // CLEAN, RACE, YES, NO, LISTED, REFUSED, SLOW
         0x434c45414e => CLEAN,
         0x52414345 => RACE,
         0x594553 => YES,
         0x4e4f => NO,
+        0x4c4953544544 => LISTED,
         0x52454655534544 => REFUSED,
         0x534c4f57 => UNTOLD,
         // judge, order

@@ -119,6 +119,51 @@ fn broken_plan_agrees() -> bool {
     (code == 2) & (values[0] == 17) & (values[1] == 5) & (kinds[0] == 9)
 }
 
+// 0 fork 2, 2 write 5, 2 halt, 0 fork 1, 1 write 5, 1 halt, 0 read 5: the pairs 1 4, 1 6 and 4 6, in slices of three cells and of four.
+fn pairs_agree() -> bool {
+    let kinds = [2u8, 1, 4, 2, 1, 4, 0];
+    let tasks = [0u16, 2, 2, 0, 1, 1, 0];
+    let operands = [2u16, 5, 0, 1, 5, 0, 5];
+    let mut ws = [9u16; CELLS];
+    let mut earlier = [9u16; 3];
+    let mut later = [9u16; 4];
+    let mut values = [9u64; 2];
+    let code = capi::racejudge_pairs(
+        &kinds,
+        &tasks,
+        &operands,
+        &mut ws,
+        &mut earlier,
+        &mut later,
+        &mut values,
+    );
+    let told = (code == 0) & (values[0] == 3) & (values[1] == 0) & (ws[0] == 0);
+    let of_s = (earlier[0] == 1) & (earlier[1] == 1) & (earlier[2] == 4);
+    told & of_s & (later[0] == 4) & (later[1] == 6) & (later[2] == 6) & (later[3] == 9)
+}
+
+// The same with a slice of two cells: 20 at 0, and nothing is written.
+fn short_pairs_agree() -> bool {
+    let kinds = [2u8, 1, 4, 2, 1, 4, 0];
+    let tasks = [0u16, 2, 2, 0, 1, 1, 0];
+    let operands = [2u16, 5, 0, 1, 5, 0, 5];
+    let mut ws = [9u16; CELLS];
+    let mut earlier = [9u16; 3];
+    let mut later = [9u16; 2];
+    let mut values = [9u64; 2];
+    let code = capi::racejudge_pairs(
+        &kinds,
+        &tasks,
+        &operands,
+        &mut ws,
+        &mut earlier,
+        &mut later,
+        &mut values,
+    );
+    let told = (code == 2) & (values[0] == 20) & (values[1] == 0) & (ws[0] == 0);
+    told & (earlier[0] == 9) & (later[0] == 9)
+}
+
 fn main() {
     let one = with(make_outcome(0, true), judge_agrees());
     let two = with(one, ordering_agrees());
@@ -126,8 +171,10 @@ fn main() {
     let four = with(three, plan_agrees());
     let five = with(four, broken_plan_agrees());
     let six = with(five, convert_agrees());
+    let seven = with(six, short_convert_agrees());
+    let eight = with(seven, pairs_agree());
     all_agree(
         b"C functions by the places of their parameters: ",
-        with(six, short_convert_agrees()),
+        with(eight, short_pairs_agree()),
     );
 }

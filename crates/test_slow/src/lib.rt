@@ -1,6 +1,7 @@
-// The slow judge, the slow ordering call and slow cards: documents 01 and 02 taken at their word, with no part of the fast ones. Of `trace` it uses the answer
-// types alone.
+// The slow judge, the slow ordering call, slow cards and the slow list of close pairs: documents 01 and 02 taken at their word, with no part of the fast ones. Of
+// `trace` it uses the answer types alone.
 pub mod card;
+pub mod close;
 pub mod events;
 mod joins;
 mod memory;
@@ -238,6 +239,22 @@ pub fn cleared(refusal: usize, n: usize) -> usize {
     }
 }
 
+// The first event that breaks a rule with this row 12: the rule's row and the event's position, or 0 and how many events there are where none does. The paths
+// among the events before it are known then.
+pub fn first_refusal(
+    kinds: &[u8],
+    tasks: &[u16],
+    operands: &[u16],
+    halts: Halts,
+    memory: &mut [usize],
+) -> Refusal {
+    let verdict = take_all(kinds, tasks, operands, memory, false, halts);
+    let Verdict::Refused(refused) = verdict else {
+        return refusal(0, kinds.len());
+    };
+    refused
+}
+
 // The position of the first event that breaks a rule with this row 12, or how many there are where none does.
 pub fn first_break(
     kinds: &[u8],
@@ -246,11 +263,7 @@ pub fn first_break(
     halts: Halts,
     memory: &mut [usize],
 ) -> usize {
-    let verdict = take_all(kinds, tasks, operands, memory, false, halts);
-    let Verdict::Refused(refusal) = verdict else {
-        return kinds.len();
-    };
-    refusal.position
+    first_refusal(kinds, tasks, operands, halts, memory).position
 }
 
 fn not_ordered(number: usize) -> Ordering {
