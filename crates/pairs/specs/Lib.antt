@@ -2,3 +2,4 @@
 pub mod Pairs
 pub mod Demands
 pub mod Close
+pub mod Runs
