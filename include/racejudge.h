@@ -27,7 +27,7 @@
  * No call keeps anything between calls: what it answers and leaves depends on what it is lent alone,
  * and threads may call at the same time, each with buffers of its own. racejudge_translate takes some
  * 25,000 bytes of the stack; racejudge_plan, which calls itself for each level of a plan, up to some
- * 10,000; the others less than 1,000.
+ * 10,000; racejudge_pairs some 1,200; the others less than 1,000.
  *
  * A TRACE is three slices of one length. Entry p of each makes event p; positions count from 0.
  *   kinds     RACEJUDGE_READ .. RACEJUDGE_SUM
@@ -56,15 +56,16 @@
  * otherwise. From no task to the top of its tree are there more than RACEJUDGE_MAX_LINKS links.
  *
  * THE WORKSPACE of both judges, the ordering call, the conversion and the call for pairs has at least
- * RACEJUDGE_WORKSPACE + n cells for n events, with any contents. After the refusals 1 to 4 and 16 it is unchanged. After every
- * other answer its first RACEJUDGE_WORKSPACE + n cells are 0 and the rest is unchanged.
+ * RACEJUDGE_WORKSPACE + n cells for n events, with any contents. After the refusals 1 to 4 and 16 it is
+ * unchanged. After every other answer its first RACEJUDGE_WORKSPACE + n cells are 0 and the rest is
+ * unchanged.
  *
  * A REFUSAL has the number of the first condition that holds, and a position: that of the event for
  * 5 to 12, that of the line for 14 and 15, that of the byte for 17 and 18, else 0. The checks go 1 to
  * 4, then 16; then for each event 5, 6, 7 and the one for its kind; 13 or 20 last. The conversion has
- * rows 1 to 3 alone. Rows 14 and 15 are the translation's, and are all that it has. Rows 17 to 19 are all that a
- * plan has: of 17 and 18 the first that is met, from the first byte on, and 19 once the whole plan is
- * read.
+ * rows 1 to 3 alone. Rows 14 and 15 are the translation's, and are all that it has. Rows 17 to 19 are
+ * all that a plan has: of 17 and 18 the first that is met, from the first byte on, and 19 once the whole
+ * plan is read.
  *    1  the three slices differ in length
  *    2  more than 32,768 events
  *    3  the workspace is too short

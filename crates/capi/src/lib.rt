@@ -1,5 +1,6 @@
 // The C interface: the calls under their names in C, for C and Rust programs to link. Each slice is a pointer and a length there. A call returns a code and stores
-// two values, the judge three (`told`, `told_texts`); `include/racejudge.h` has the prototypes. The functions that take records are walked by hand: a straight line of calls, and one loop.
+// two values, the judge three (`told`, `told_texts`); `include/racejudge.h` has the prototypes. The functions that take records are walked by hand: a straight line
+// of calls, and one loop.
 ghost use mathlib.Core.Path.{_≡_};
 ghost use Prim.Native.Nat.{_≤_};
 ghost use lib.ListN.{length};

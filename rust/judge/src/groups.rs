@@ -2,7 +2,7 @@
 
 use crate::phrases::count;
 use crate::study::Scene;
-use racejudge::{Kind, Pair, Pairs};
+use racejudge::{Kind, Pair, Pairs, CLOSE};
 use std::collections::{BTreeMap, BTreeSet};
 
 /// What the pairs of a group have in common beside their location, the lower of two first.
@@ -73,8 +73,12 @@ impl Group {
     }
 }
 
-/// In the order of the locations, and of one location in that of its places.
-pub struct Groups(pub Vec<Group>);
+pub struct Groups {
+    /// In the order of the locations, and of one location in that of its places.
+    pub list: Vec<Group>,
+    /// Whether the pairs are of a text: the binary form has no source lines.
+    is_text: bool,
+}
 
 impl Groups {
     /// All pairs are counted, and so many of each group are kept.
@@ -86,32 +90,33 @@ impl Groups {
             let new = || Group { location, ends, count: 0, pairs: vec![], tasks: vec![] };
             groups.entry((location, ends)).or_insert_with(new).take(scene, pair, most);
         }
-        Groups(groups.into_values().collect())
+        let is_text = scene.recording.text.is_some();
+        Groups { list: groups.into_values().collect(), is_text }
     }
 
     /// How many pairs there are.
     pub fn pairs(&self) -> usize {
-        self.0.iter().map(|group| group.count).sum()
+        self.list.iter().map(|group| group.count).sum()
     }
 
     pub fn locations(&self) -> usize {
-        self.0.chunk_by(|one, other| one.location == other.location).count()
+        self.list.chunk_by(|one, other| one.location == other.location).count()
     }
 
-    /// How many source lines there are; none in a file that has none.
+    /// How many source lines they come from, 0 where there is no pair; none in the binary form.
     pub fn sources(&self) -> Option<usize> {
-        let sources = self.0.iter().filter_map(|group| group.ends.sources()).flatten();
+        let sources = self.list.iter().filter_map(|group| group.ends.sources()).flatten();
         let sources: BTreeSet<u16> = sources.collect();
-        (!sources.is_empty()).then_some(sources.len())
+        self.is_text.then_some(sources.len())
     }
 
     pub fn tasks(&self) -> usize {
         let tasks: BTreeSet<u16> =
-            self.0.iter().flat_map(|group| group.tasks.iter().copied()).collect();
+            self.list.iter().flat_map(|group| group.tasks.iter().copied()).collect();
         tasks.len()
     }
 
-    /// How many pairs there are, and what they come down to.
+    /// How many pairs there are, how far apart they are at most, and what they come down to.
     pub fn summary(&self) -> String {
         let locations = count(self.locations(), "location");
         let places = match self.sources() {
@@ -120,9 +125,13 @@ impl Groups {
         };
         let to = format!("down to {locations} and {places}.");
         match self.pairs() {
-            1 => format!("1 pair of accesses races: either can come first. It comes {to}"),
+            1 => format!(
+                "1 pair of accesses at most {CLOSE} events apart races: either can come first. It \
+                 comes {to}"
+            ),
             pairs => format!(
-                "{} of accesses race: in each of them either can come first. They come {to}",
+                "{} of accesses at most {CLOSE} events apart race: in each of them either can come \
+                 first. They come {to}",
                 count(pairs, "pair")
             ),
         }

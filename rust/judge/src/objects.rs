@@ -87,6 +87,8 @@ pub fn listed(
     let (Ok(pairs), Some(scene)) = (&listed.answer, scene) else {
         if let Err(refusal) = &listed.answer {
             fields.extend(refused(listed.study.recording, scene, refusal));
+            // It may stand before the event for which the list is refused.
+            fields.push(first_race(listed, scene));
         }
         fields.extend(drawn(picture));
         return out.write_all(line(file, fields).as_bytes());
@@ -107,8 +109,8 @@ fn grouped(scene: &Scene, listed: &Listed, groups: &Groups) -> Fields {
         ("count", groups.pairs().into()),
         ("locations", groups.locations().into()),
         ("sources", groups.sources().into()),
-        ("groups", groups.0.iter().map(group).collect::<Vec<Json>>().into()),
-        ("race", listed.first_race().map(|it| first_race(scene, it)).into()),
+        ("groups", groups.list.iter().map(group).collect::<Vec<Json>>().into()),
+        first_race(listed, Some(scene)),
     ]
 }
 
@@ -123,13 +125,16 @@ fn group(group: &Group) -> Json {
     ])
 }
 
-fn first_race(scene: &Scene, Pair { s, t }: Pair) -> Json {
-    Json::Object(vec![
-        ("location", scene.trace.event(t).map(|event| event.operand).into()),
-        ("s", event(scene, s)),
-        ("t", event(scene, t)),
-        ("close", (t - s <= CLOSE).into()),
-    ])
+fn first_race(listed: &Listed, scene: Option<&Scene>) -> (&'static str, Json) {
+    let race = listed.first_race().zip(scene).map(|(Pair { s, t }, scene)| {
+        Json::Object(vec![
+            ("location", scene.trace.event(t).map(|event| event.operand).into()),
+            ("s", event(scene, s)),
+            ("t", event(scene, t)),
+            ("close", (t - s <= CLOSE).into()),
+        ])
+    });
+    ("race", race.into())
 }
 
 fn pair(scene: &Scene, Pair { s, t }: Pair) -> Json {

@@ -1,6 +1,6 @@
 //! Words for events, tasks, numbers and bytes.
 
-use racejudge::{Event, Kind, Leaf, Place, Trace};
+use racejudge::{Event, Kind, Leaf, Pair, Place, Trace};
 use std::ffi::OsStr;
 
 /// What an access does to its location, which follows.
@@ -86,6 +86,11 @@ pub fn grouped(number: usize) -> String {
 /// What is known of the events before one that is refused.
 pub fn clean_before(p: usize) -> String {
     format!("No two accesses before event {p} race.")
+}
+
+/// That the first race is not among the close pairs.
+pub fn first_is_far(Pair { s, t }: Pair) -> String {
+    format!("The first race of the trace is farther apart: events {s} and {t}.")
 }
 
 /// A sentence's first letter made large.

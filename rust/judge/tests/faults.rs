@@ -275,6 +275,9 @@ fn damaged_binary_traces_are_told() {
         damaged(&whole[..end], "too short: 2 events take 18 bytes");
     }
     damaged(&[&whole[..], &[0]].concat(), "too long: 2 events take 18 bytes");
+    let one = binary([Event::write(0, 5)]);
+    damaged(&one[..12], "too short: 1 event takes 13 bytes, but there are 12");
+    damaged(&[0], "1 byte is no trace");
     for byte in 4..whole.len() {
         let mut changed = whole.clone();
         changed[byte] ^= 1;

@@ -77,8 +77,8 @@ fn children(number: u16, writes: usize) -> Vec<Event> {
 fn a_text_has_its_pairs_by_location_and_source_lines() {
     let told = "pairs 4
 
-4 pairs of accesses race: in each of them either can come first. They come down to 2 locations and 4
-source lines.
+4 pairs of accesses at most 256 events apart race: in each of them either can come first. They come
+down to 2 locations and 4 source lines.
 
 Location 7: 2 pairs, between source lines 15 and 20:
 
@@ -114,7 +114,8 @@ Events count from 0, lines from 1. Halts are put in: they are events with no lin
 fn one_pair_is_told_as_one() {
     let told = "pairs 1
 
-1 pair of accesses races: either can come first. It comes down to 1 location and 2 source lines.
+1 pair of accesses at most 256 events apart races: either can come first. It comes down to 1
+location and 2 source lines.
 
 Location 5: 1 pair, between source lines 20 and 30:
 
@@ -159,8 +160,8 @@ fn a_binary_trace_has_its_pairs_by_location_and_kinds() {
     ];
     let told = "pairs 5
 
-5 pairs of accesses race: in each of them either can come first. They come down to 2 locations and 3
-tasks.
+5 pairs of accesses at most 256 events apart race: in each of them either can come first. They come
+down to 2 locations and 3 tasks.
 
 Location 3: 1 pair of two writes, by tasks 1 and 2:
 
@@ -244,14 +245,32 @@ fn with_no_race_at_all_the_status_is_0() {
     // But for the first line all is as the judge says it.
     let whole = run([&file(CLEAN)]).out;
     assert_eq!(clean, whole.replace("clean 1\n", "pairs 0\n"));
-    for content in [Vec::new(), binary([])] {
+    for (content, sources) in [(Vec::new(), Json::Number(0)), (binary([]), Json::Null)] {
         let none = "pairs 0\n\nThere is no event in the file, so nothing can race.\n";
         assert_eq!(words(&[], &content, 0), none);
         let object = object(&content, 0);
         assert_eq!([object.field("count").number(), object.field("events").number()], [0, 0]);
         assert_eq!((object.field("pairs").items(), object.field("race")), (&[][..], &Json::Null));
         assert_eq!(object.field("groups"), &Json::List(Vec::new()));
+        assert_eq!(object.field("sources"), &sources);
     }
+}
+
+/// With no pair a text has 0 source lines of pairs: only the binary form has none to count.
+#[test]
+fn a_text_with_no_pair_has_no_source_line_of_one() {
+    assert_eq!(object(CLEAN, 0).field("sources"), &Json::Number(0));
+    for events in [&[Event::write(0, 5)][..], &apart(257)] {
+        let trace: Trace = events.iter().copied().collect();
+        let status = i32::from(matches!(racejudge::judge(&trace), Ok(Verdict::Race { .. })));
+        let object = object(binary(events.iter().copied()), status);
+        assert_eq!((object.field("count").number(), object.field("sources")), (0, &Json::Null));
+    }
+    // So where the race of a text is too far apart.
+    let far = format!("T0|fork(T1)|1\nT1|w(V5)|2\n{}T0|r(V5)|4\n", "T0|r(V6)|3\n".repeat(300));
+    let object = object(far, 1);
+    assert_eq!(["count", "sources"].map(|name| object.field(name).number()), [0, 0]);
+    assert_eq!(object.field("race").field("t").field("source").number(), 4);
 }
 
 /// The judge's race is farther apart than the pairs that are listed.
@@ -331,8 +350,12 @@ fn a_refusal_is_told_as_by_the_judge() {
     let told = Json::parse(pairs(&["--json"], &path).out.trim_end()).unwrap();
     let wanted = Json::parse(run(["--json".as_ref(), path.as_os_str()]).out.trim_end()).unwrap();
     let names: Vec<&str> = wanted.names().into_iter().filter(|name| *name != "links").collect();
-    assert_eq!(told.names(), names);
+    let own: Vec<&str> = told.names().into_iter().filter(|name| *name != "race").collect();
+    assert_eq!(own, names);
     assert!(names.iter().all(|name| told.field(name) == wanted.field(name)), "{told:?}");
+    // No race is known, of a trace or of what is none.
+    assert_eq!(told.field("race"), &Json::Null);
+    assert_eq!(object("T0|r(V5)", 2).field("race"), &Json::Null);
 }
 
 /// The judge stops at the race; the list asks the rules of the whole trace.
@@ -344,8 +367,14 @@ fn a_rule_that_is_broken_behind_a_race_is_refused() {
         "Pairs are listed where the whole trace keeps the rules. Before event 4 there is a \
                   race, of events 1 and 3: `judge FILE` explains it.";
     assert!(unbroken(&told).contains(before) && !told.contains("No two accesses"), "{told}");
-    let object = object(format!("{DOCUMENT}T7|w(V1)|40\n"), 2);
-    assert_eq!((object.field("row").number(), object.field("position").number()), (7, 4));
+    let refused = object(format!("{DOCUMENT}T7|w(V1)|40\n"), 2);
+    assert_eq!((refused.field("row").number(), refused.field("position").number()), (7, 4));
+    // The race is that of the list where no rule is broken.
+    assert_eq!(refused.field("race"), object(DOCUMENT, 1).field("race"));
+    let far = apart(300).into_iter().chain([Event::join(0, 9)]);
+    let race = object(binary(far), 2).field("race").clone();
+    assert_eq!(["s", "t"].map(|end| race.field(end).field("event").number()), [1, 301]);
+    assert_eq!((race.field("close"), race.field("location").number()), (&Json::Truth(false), 5));
 }
 
 /// Three pairs of a group are shown, and how many are left out.

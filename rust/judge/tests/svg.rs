@@ -675,7 +675,7 @@ fn numbers_in(text: &str) -> Vec<usize> {
     words.map(|word| word.parse().expect("a number")).collect()
 }
 
-/// Marked are the accesses that race, all that are drawn and no other; each bracket connects a pair, and
+/// Marked are the accesses of the pairs, all that are drawn and no other; each bracket connects a pair, and
 /// what is left out is told. How many brackets there are.
 fn check_pairs(drawn: &Drawn, pairs: &[Pair]) -> usize {
     let racing: HashSet<usize> = pairs.iter().flat_map(|pair| [pair.s, pair.t]).collect();
@@ -734,7 +734,12 @@ fn check_told(drawn: &Drawn, [racing, pairs]: [usize; 2], connected: usize) {
     let connects = (marked < racing || connected < pairs).then(|| vec![connected, pairs]);
     let told = (sentence("Marked are "), sentence("Brackets connect "));
     assert_eq!(told, (marks, connects), "{said}");
-    assert_eq!(numbers_in(&said)[0], pairs, "{said}");
+    assert_eq!(said.contains("accesses of these pairs."), marked < racing, "{said}");
+    assert_eq!(numbers_in(&said)[..2], [pairs, 256], "{said}");
+    // Where the judge's race is none of them, that is told.
+    let far = drawn.pair().filter(|(s, t)| t - s > 256);
+    let far = far.map(|(s, t)| vec![s, t]);
+    assert_eq!(sentence("The first race of the trace is farther apart: "), far, "{said}");
 }
 
 #[test]
@@ -782,6 +787,22 @@ fn a_picture_of_very_many_pairs_stays_small() {
     assert!(pairs(&trace).expect("the rules are kept").len() > 600_000);
     assert_eq!(bracket_rows(&drawn).len(), 3);
     assert!(drawn.events().len() < 80);
+}
+
+/// One race is close, and the first is not.
+#[test]
+fn a_picture_of_pairs_tells_a_first_race_that_is_farther_apart() {
+    let mut events = vec![Event::fork(0, 1), Event::write(1, 5), Event::halt(1, 0)];
+    events.extend(vec![Event::read(0, 6); 300]);
+    events.push(Event::read(0, 5));
+    events.extend([Event::fork(0, 2), Event::write(2, 9), Event::halt(2, 0), Event::read(0, 9)]);
+    let drawn = Drawn::of_pairs(&events.into_iter().collect(), "far");
+    let said = "1 pair of accesses at most 256 events apart races: either can come first. It comes down \
+                to 1 location and 2 tasks. The first race of the trace is farther apart: events 1 and \
+                303. ";
+    assert!(drawn.said().starts_with(said), "{}", drawn.said());
+    assert!(drawn.event(305).has_class("racing"));
+    nothing_lies_over_a_label(&drawn);
 }
 
 /// Where no pair is close, the picture is the judge's, with the line of the list.

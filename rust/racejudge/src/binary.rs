@@ -42,11 +42,13 @@ impl fmt::Display for Damage {
     fn fmt(&self, f: &mut fmt::Formatter<'_>) -> fmt::Result {
         match *self {
             Damage::NoFrame { bytes } => {
-                write!(f, "{bytes} bytes are no trace: even one of no events has {FRAME_BYTES}")
+                let are = if bytes == 1 { "byte is" } else { "bytes are" };
+                write!(f, "{bytes} {are} no trace: even one of no events has {FRAME_BYTES}")
             }
             Damage::Length { events, needed, bytes } => {
                 let wrong = if (bytes as u64) < needed { "too short" } else { "too long" };
-                write!(f, "{wrong}: {events} events take {needed} bytes, but there are {bytes}")
+                let take = if events == 1 { "event takes" } else { "events take" };
+                write!(f, "{wrong}: {events} {take} {needed} bytes, but there are {bytes}")
             }
             Damage::Checksum { stored, computed } => {
                 write!(

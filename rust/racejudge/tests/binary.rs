@@ -131,9 +131,14 @@ fn a_length_that_no_file_has() {
 fn damage_in_words() {
     let told = |bytes: &[u8]| Trace::from_binary(bytes).unwrap_err().to_string();
     assert_eq!(told(&[1, 2, 3]), "3 bytes are no trace: even one of no events has 8");
+    assert_eq!(told(&[0]), "1 byte is no trace: even one of no events has 8");
+    assert_eq!(told(&[]), "0 bytes are no trace: even one of no events has 8");
     assert_eq!(told(&EXAMPLE[..27]), "too short: 4 events take 28 bytes, but there are 27");
     let longer = [&EXAMPLE[..], b"\n"].concat();
     assert_eq!(told(&longer), "too long: 4 events take 28 bytes, but there are 29");
+    let one = [1, 0, 0, 0, 0, 0, 0, 0];
+    assert_eq!(told(&one), "too short: 1 event takes 13 bytes, but there are 8");
+    assert_eq!(told(&[0; 9]), "too long: 0 events take 8 bytes, but there are 9");
     let mut stored = EXAMPLE;
     stored[24..].copy_from_slice(&[0x0d, 0xf0, 0x01, 0x00]);
     assert_eq!(told(&stored), "the checksum is 0x0001f00d, but that of the bytes is 0x3bf9bddc");

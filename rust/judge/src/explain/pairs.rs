@@ -4,7 +4,7 @@
 use super::page::Page;
 use super::{behind, clean, counting};
 use crate::groups::{Ends, Group, Groups};
-use crate::phrases::{count, tasks};
+use crate::phrases::{count, first_is_far, tasks};
 use crate::study::{Listed, Scene};
 use racejudge::{Kind, Pair, Pairs, CLOSE};
 use std::collections::BTreeMap;
@@ -33,11 +33,11 @@ pub fn tell(
         cut(&mut groups);
     }
     let rows = rows(scene, &groups);
-    let shown = if all { groups.0.len() } else { SHOWN_GROUPS.min(groups.0.len()) };
-    for group in &groups.0[..shown] {
+    let shown = if all { groups.list.len() } else { SHOWN_GROUPS.min(groups.list.len()) };
+    for group in &groups.list[..shown] {
         tell_group(out, group, &rows)?;
     }
-    if let Some(rest) = groups.0.get(shown..).filter(|rest| !rest.is_empty()) {
+    if let Some(rest) = groups.list.get(shown..).filter(|rest| !rest.is_empty()) {
         let pairs = rest.iter().map(|group| group.count).sum();
         let (more, pairs) = (count(rest.len(), "group"), count(pairs, "pair"));
         put(out, |page| page.add(&format!("({more} with {pairs} left out; {WHOLE})")))?;
@@ -55,7 +55,7 @@ fn put(out: &mut dyn Write, tell: impl FnOnce(&mut Page)) -> io::Result<()> {
 /// Keeps the pairs that are shown where not all are wanted.
 fn cut(groups: &mut Groups) {
     let mut room = SHOWN;
-    for group in &mut groups.0 {
+    for group in &mut groups.list {
         group.pairs.truncate(room);
         room -= group.pairs.len();
     }
@@ -63,7 +63,7 @@ fn cut(groups: &mut Groups) {
 
 /// The rows of all events that are shown, set under each other.
 fn rows(scene: &Scene, groups: &Groups) -> BTreeMap<usize, String> {
-    let pairs = groups.0.iter().flat_map(|group| &group.pairs);
+    let pairs = groups.list.iter().flat_map(|group| &group.pairs);
     let mut events: Vec<usize> = pairs.flat_map(|pair| [pair.s, pair.t]).collect();
     events.sort_unstable();
     events.dedup();
@@ -126,10 +126,8 @@ fn outlook(page: &mut Page, listed: &Listed, scene: &Scene, pairs: usize) {
              as well."
         )
     });
-    if let Some(Pair { s, t }) = listed.far_race() {
-        page.add(&format!(
-            "The first race of the trace is farther apart: events {s} and {t}. `judge FILE` explains it."
-        ));
+    if let Some(race) = listed.far_race() {
+        page.add(&format!("{} `judge FILE` explains it.", first_is_far(race)));
     }
     counting(page, scene.recording);
 }

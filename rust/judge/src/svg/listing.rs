@@ -1,4 +1,4 @@
-//! The close pairs of a run: which of its accesses race, and which pairs are connected by brackets.
+//! The close pairs of a run: which accesses are of one, and which pairs are connected by brackets.
 
 use crate::groups::Groups;
 use crate::study::Scene;
@@ -34,14 +34,14 @@ impl<'a> Listing<'a> {
         self.racing.get(p).is_some_and(|&racing| racing)
     }
 
-    /// How many accesses race, of those that are drawn or of all.
+    /// How many accesses are of a pair, of those that are drawn or of all.
     pub fn accesses(&self, drawn: impl Fn(usize) -> bool) -> usize {
         (0..self.racing.len()).filter(|&p| self.is_racing(p) && drawn(p)).count()
     }
 
     /// The pairs that are to be drawn, the most important first: one of each group, then another.
     pub fn chosen(&self) -> impl Iterator<Item = Pair> + '_ {
-        let groups = &self.groups.0;
+        let groups = &self.groups.list;
         (0..OF_GROUP)
             .flat_map(move |i| groups.iter().filter_map(move |it| it.pairs.get(i).copied()))
     }

@@ -2,7 +2,7 @@
 
 use super::story::{Mark, Story};
 use crate::answer;
-use crate::phrases::{capital, clean_before, deed, grouped, has_sums, leaf};
+use crate::phrases::{capital, clean_before, deed, first_is_far, grouped, has_sums, leaf};
 use crate::study::Clash;
 use racejudge::{Event, Kind, Refusal, Verdict, CLOSE};
 
@@ -82,7 +82,8 @@ impl Story<'_> {
     /// The answer in a few sentences.
     pub fn summary(&self) -> Vec<String> {
         if let Some(listing) = &self.listing {
-            return vec![listing.groups.summary()];
+            let far = self.listed.and_then(|listed| listed.far_race()).map(first_is_far);
+            return [listing.groups.summary()].into_iter().chain(far).collect();
         }
         match self.answer {
             Ok(Verdict::Clean { .. }) if self.trace.is_empty() => {
@@ -131,14 +132,14 @@ impl Story<'_> {
         ))
     }
 
-    /// How many of the accesses that race are drawn and of the pairs are connected, where that is
+    /// How many of the accesses of the pairs are drawn and of the pairs are connected, where that is
     /// less than could be.
     pub fn connected(&self, drawn: &[bool], brackets: usize) -> Option<String> {
         let listing = self.listing.as_ref()?;
         let racing = listing.accesses(|_| true);
         let marked = listing.accesses(|p| drawn.get(p) == Some(&true));
         let of = |shown: usize, all: usize| format!("{} of the {}", grouped(shown), grouped(all));
-        let marks = format!("Marked are {} accesses that race. ", of(marked, racing));
+        let marks = format!("Marked are {} accesses of these pairs. ", of(marked, racing));
         let connects = format!("Brackets connect {} pairs.", of(brackets, listing.pairs.len()));
         match (marked < racing, brackets < listing.pairs.len()) {
             (true, _) => Some(marks + &connects),
