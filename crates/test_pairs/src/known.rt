@@ -1,4 +1,4 @@
-// Runs that are told with their pairs, as a table. Each wrong way of the slow list must show in one of them.
+// Runs that are told with their pairs, as a table. Each wrong way of the slow list must show in one of them, but for those that take the distance wrong.
 use crate::compare::EXACT;
 use crate::compare::LENDINGS;
 use crate::compare::compare;

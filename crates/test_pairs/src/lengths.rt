@@ -1,21 +1,15 @@
 // Rows 1 to 3 and 20, and the longest traces: slices of many lengths.
-use crate::compare::AS_TOLD;
-use crate::compare::compare;
 use crate::slow::listed;
 use test_calls::Call;
-use test_calls::MISMATCH;
 use test_calls::REFUSED;
 use test_calls::Reply;
 use test_calls::judging;
-use test_calls::large::put_one;
 use test_calls::lengths::lengths;
 use test_calls::lengths::told;
 use test_calls::plants::lay_events;
 use test_calls::table::read_table;
 use test_calls::table::rows;
 use test_calls::wanting;
-use test_samples::events::WRITE;
-use test_slow::close::RIGHT;
 
 // Of each run the lengths of the six slices, with those for the pairs last, and the row by which it is refused, or 0. Answers how many runs there are, 0 if the
 // cells are too few for them.
@@ -74,11 +68,8 @@ fn call_of(run: usize) -> Call {
     wanting(judging(lengths(&cells, run), run), want)
 }
 
-// The events are those of the plants, and behind them reads by task 0, but for the last of 32,768: that is a write, which races with events far away alone. Of so
-// many events the slow list is what was put before.
-pub fn agrees(run: usize, memory: &mut [usize]) -> bool {
-    let mut events = [0u16; 98304];
-    lay_events(&mut events);
-    put_one(&mut events, 32767, 0, WRITE, 5);
-    compare(&events, call_of(run), AS_TOLD, RIGHT, memory).case != MISMATCH
+// The events are those of the plants, and behind them reads by task 0. Of 32,768 events the slow list is what was put before.
+pub fn lay(run: usize, events: &mut [u16]) -> Call {
+    lay_events(events);
+    call_of(run)
 }

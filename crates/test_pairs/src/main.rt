@@ -6,72 +6,21 @@ mod lengths;
 mod plants;
 mod random;
 mod slow;
+mod tries;
 
-use random::COUNTS;
-use random::MEMORY;
 use test_cells::least;
-use test_cells::less;
-use test_cells::more;
-use test_outcome::Outcome;
 use test_outcome::all_agree;
 use test_outcome::all_noticed;
-use test_outcome::make_outcome;
 use test_outcome::print_all;
-use test_outcome::with;
 use test_slow::close::RIGHT;
-use test_slow::close::WAYS;
-
-// ---- tries
-
-const WRONG_WAYS: usize = 0;
-
-const PLANTS: usize = 1;
-
-const LENGTHS: usize = 2;
-
-const FAR: usize = 3;
-
-const RANDOM: usize = 4;
-
-fn tries(group: usize) -> usize {
-    match group {
-        0 => less(WAYS),
-        1 => plants::count(),
-        2 => lengths::count(),
-        3 => far::TRIES,
-        _ => random::TRACES,
-    }
-}
-
-// A wrong way shows in a run that is told, or where two writes are 257 and 256 events before a third.
-fn is_noticed(way: usize, memory: &mut [usize]) -> bool {
-    let told = known::try_all(way, memory).all;
-    let far = far::write_agrees(258, 3, way, memory);
-    !(told & far)
-}
-
-fn try_one(group: usize, i: usize, memory: &mut [usize]) -> bool {
-    match group {
-        0 => is_noticed(more(i), memory),
-        1 => plants::is_noticed(i, memory),
-        2 => lengths::agrees(i, memory),
-        3 => far::agrees(i, memory),
-        _ => random::agrees(i, memory),
-    }
-}
-
-fn try_all(group: usize, memory: &mut [usize]) -> Outcome {
-    let n = tries(group);
-    let mut outcome = make_outcome(0, true);
-    let mut i = 0;
-    while i < n {
-        outcome = with(outcome, try_one(group, i, memory));
-        i += 1;
-    }
-    outcome
-}
-
-// ---- what is told
+use tries::COUNTS;
+use tries::FAR;
+use tries::LENGTHS;
+use tries::MEMORY;
+use tries::PLANTS;
+use tries::RANDOM;
+use tries::WRONG_WAYS;
+use tries::try_all;
 
 fn run_told(memory: &mut [usize]) {
     all_agree(b"runs that are told: ", known::try_all(RIGHT, memory));

@@ -1,6 +1,5 @@
 // Wrong expectations: the comparison must notice each of them.
-use crate::compare::compare;
-use test_calls::MISMATCH;
+use test_calls::Call;
 use test_calls::plants::CELLS;
 use test_calls::plants::lay_events;
 use test_calls::plants::planted;
@@ -8,7 +7,6 @@ use test_calls::table::read_table;
 use test_calls::table::rows;
 use test_cells::get;
 use test_cells::more;
-use test_slow::close::RIGHT;
 
 // As the judge's plants, on the same events, which make the two pairs 1 4 and 2 4: how many of the events; the lending, 16 for slices of 7 and 8 cells or 9 for 2
 // and 1; the answer that is told, or SLOW for the right one; the buffer and its cell that is expected wrong, with the earlier slice for the first and the later one
@@ -59,15 +57,19 @@ pub fn count() -> usize {
     read_plants(&mut cells)
 }
 
-fn lending_of(cells: &[u16], i: usize) -> usize {
-    get(cells, more((i % 65536) * CELLS))
+pub fn lending_of(i: usize) -> usize {
+    let mut cells = [0u16; 240];
+    read_plants(&mut cells);
+    get(&cells, more((i % 65536) * CELLS))
 }
 
-pub fn is_noticed(i: usize, memory: &mut [usize]) -> bool {
-    let mut events = [0u16; 15];
+fn call_of(i: usize) -> Call {
     let mut cells = [0u16; 240];
-    lay_events(&mut events);
     read_plants(&mut cells);
-    let lending = lending_of(&cells, i);
-    compare(&events, planted(&cells, i), lending, RIGHT, memory).case == MISMATCH
+    planted(&cells, i)
+}
+
+pub fn lay(i: usize, events: &mut [u16]) -> Call {
+    lay_events(events);
+    call_of(i)
 }

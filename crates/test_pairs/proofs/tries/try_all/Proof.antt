@@ -1,10 +1,10 @@
--- `test_pairs::try_all` is safe and ends. The measure is the number of tries that are left. Assumes nothing.
+-- `test_pairs::tries::try_all` is safe and ends. The measure is the number of tries that are left. Assumes nothing.
 use Prim.Native.Nat.{_-_}
 use mathlib.Core.Path.{_≡_}
 use borrow.Author.Needs.{needs}
 use lib.ListN.{length}
-use Rattle.test_pairs.proofs.try_all.Statement.{statement}
-use Rattle.test_pairs.proofs.try_all.Tie as tie
+use Rattle.test_pairs.proofs.tries.try_all.Statement.{statement}
+use Rattle.test_pairs.proofs.tries.try_all.Tie as tie
 
 abbrev Inv-loop : tie.InvT-loop
 Inv-loop group memory₀ n outcome₀ i₀ memory outcome i = length memory ≡ length memory₀
