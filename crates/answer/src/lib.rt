@@ -1,4 +1,6 @@
 // The program's answer to a text, from its bytes to the bytes of the whole output.
+#![tactic(auto)]
+
 ghost use Rattle.std.specs.Prelude.{◌≡◌, [], take};
 ghost use Rattle.trace.specs.Outcome.{refused};
 ghost use Rattle.output.specs.Output.{buffer, rendered};

@@ -1,6 +1,7 @@
-// The C interface: the calls under their names in C, for C and Rust programs to link. Each slice is a pointer and a length there. A call returns a code and stores
-// two values, the judge three (`told`, `told_texts`); `include/racejudge.h` has the prototypes. The functions that take records are walked by hand: a straight line
-// of calls, and one loop.
+// The calls of the C interface, for Rattle crates; `capi_c` exports each of them to C under its name. A call returns a code and stores two values, the judge three
+// (`told`, `told_texts`).
+#![tactic(auto)]
+
 ghost use Rattle.std.specs.Prelude.{◌≡◌, ◌≤◌, length};
 ghost use Rattle.trace.specs.Lent.{lent_trace};
 ghost use Rattle.trace.specs.Outcome.{judge_outcome, ordering_outcome};
@@ -27,16 +28,14 @@ use cards::Card;
 const VERSION: u64 = 6;
 
 // It stands in the name, so that a program does not link with an archive of another version.
-#[unsafe(no_mangle)]
-pub extern "C" fn racejudge_version_6() -> u64
+pub fn racejudge_version_6() -> u64
     ensures { result ≡ 6 }
 {
     VERSION
 }
 
 // The judge of a whole trace.
-#[unsafe(no_mangle)]
-pub extern "C" fn racejudge_judge(
+pub fn racejudge_judge(
     kinds: &[u8],
     tasks: &[u16],
     operands: &[u16],
@@ -62,8 +61,7 @@ pub extern "C" fn racejudge_judge(
 }
 
 // The ordering call: does event p reach event q?
-#[unsafe(no_mangle)]
-pub extern "C" fn racejudge_ordering(
+pub fn racejudge_ordering(
     kinds: &[u8],
     tasks: &[u16],
     operands: &[u16],
@@ -83,8 +81,7 @@ pub extern "C" fn racejudge_ordering(
 }
 
 // The conversion of a stored trace.
-#[unsafe(no_mangle)]
-pub extern "C" fn racejudge_convert(
+pub fn racejudge_convert(
     kinds: &[u8],
     tasks: &[u16],
     operands: &mut [u16],
@@ -102,8 +99,7 @@ pub extern "C" fn racejudge_convert(
 }
 
 // Every close pair.
-#[unsafe(no_mangle)]
-pub extern "C" fn racejudge_pairs(
+pub fn racejudge_pairs(
     kinds: &[u8],
     tasks: &[u16],
     operands: &[u16],
@@ -126,8 +122,7 @@ pub extern "C" fn racejudge_pairs(
 }
 
 // Text to a trace.
-#[unsafe(no_mangle)]
-pub extern "C" fn racejudge_translate(
+pub fn racejudge_translate(
     text: &[u8],
     kinds: &mut [u8],
     tasks: &mut [u16],
@@ -143,8 +138,7 @@ pub extern "C" fn racejudge_translate(
 }
 
 // A plan to a trace.
-#[unsafe(no_mangle)]
-pub extern "C" fn racejudge_plan(
+pub fn racejudge_plan(
     text: &[u8],
     kinds: &mut [u8],
     tasks: &mut [u16],
@@ -174,8 +168,7 @@ fn put_cards(cards: &mut [Card], ws: &[u16], k: usize)
 }
 
 // The judge that also fills a card for each location.
-#[unsafe(no_mangle)]
-pub extern "C" fn racejudge_judge_cards(
+pub fn racejudge_judge_cards(
     kinds: &[u8],
     tasks: &[u16],
     operands: &[u16],

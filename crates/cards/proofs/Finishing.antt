@@ -1,5 +1,5 @@
 -- The call with the records themselves: what is due fits (`call_fits`), and once the cards are stored and the tables wiped the call has its outcome and keeps the
--- demands (`call_done`). The walk of the C function rests on these two. Assumes nothing.
+-- demands (`call_done`). The proof of the C function rests on these two. Assumes nothing.
 use Prim.Native.Nat.{ℕ, ◌≤◌}
 use mathlib.Core.Path.{◌≡◌, refl, sym, ap, ◌∙◌}
 use mathlib.Core.List.{List}

@@ -1,4 +1,4 @@
--- The laws behind the contracts, and of the call with the records themselves (Records, Demanding, Finishing), which is walked in `capi`.
+-- The laws behind the contracts, and of the call with the records themselves (Records, Demanding, Finishing), which is in `capi`.
 pub mod Leaves
 pub mod Touching
 pub mod Tallying

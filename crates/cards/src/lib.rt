@@ -1,6 +1,8 @@
 // A card for each location, after a clean verdict: how often it was read, written and added to, and by which events first and last. The judge clears its workspace, so the
 // cards are counted in its tables by a second pass; a pass during the judgement would not do, since every other answer leaves the lent records as they were.
-// A function that takes the records themselves is walked by hand (`capi`). So all branches are here, where the number of records stands for them.
+// `capi` takes the records themselves. All branches are here, where the number of records stands for them.
+#![tactic(auto)]
+
 ghost use Rattle.std.specs.Prelude.{◌≡◌, true, ◌&&◌, ◌+◌, ◌<◌, ◌≤◌, eqb, ltb, length};
 ghost use Rattle.trace.specs.Trace.{is_access, LOCATIONS, MAX_EVENTS};
 ghost use Rattle.trace.specs.Outcome.{sizes, order_room};
@@ -12,7 +14,7 @@ ghost use Rattle.cards.specs.Tally.{position_in, card_in, due_after, Tables, wip
 
 // What is known of one location.
 #[repr(C)]
-#[derive(Drop)]
+#[derive(Clone, Copy)]
 pub struct Card {
     pub reads: u16,
     pub writes: u16,

@@ -1,5 +1,7 @@
 // Cells of the one workspace that callers lend: twelve tables of 1,024 cells, then one cell for each event. Table k starts at cell k * 1,024. And the one writer of
 // events, to three lent slices.
+#![tactic(auto)]
+
 ghost use Rattle.std.specs.Prelude.{◌≡◌, max, ◌+◌, ◌≤◌, ◌<◌, length, get_or, set};
 ghost use Rattle.trace.specs.Slices.{slices, store, Room};
 ghost use Rattle.cells.specs.Cells.{zeroed, NUMBER, number_in};

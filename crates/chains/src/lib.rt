@@ -1,5 +1,7 @@
 // How long the chains of the table of joins get (document 02, K2). No answer rests on the table, so it is made where its number is reported: over the joins of
 // the events that were looked at.
+#![tactic(auto)]
+
 ghost use Rattle.std.specs.Prelude.{◌≡◌, ◌≤◌, ◌<◌, suc, length};
 ghost use Rattle.trace.specs.Lent.{lent_trace};
 ghost use Rattle.trace.specs.Line.{halt_operand};

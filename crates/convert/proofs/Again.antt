@@ -14,7 +14,8 @@ use Rattle.trace.proofs.Lines.{passes_earlier, halt_meets, graph_kept, graph_le}
 use Rattle.trace.proofs.Congruence.{SameButHalts, same_fewer, line_same}
 use Rattle.trace.proofs.SameVerdict.{HaltsMeet, line_carries}
 use Rattle.convert.specs.Conversion.{operand_at, first_break, converted_operands}
-use Rattle.convert.proofs.Meaning.{converted_length, converted_at, set_at, other_at, later_at, converted_set}
+use Rattle.convert.proofs.EachOperand.{set_at, other_at, later_at}
+use Rattle.convert.proofs.Meaning.{converted_length, converted_at, converted_set}
 
 module _ (tr : Trace) (n : ℕ) where
   stop_le : first_break tr n ≤ n

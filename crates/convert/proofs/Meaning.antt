@@ -1,17 +1,13 @@
 -- What the conversion leaves means what document 02, K6, asks for: the operands are set as it says (`converted_set`), and what was clean or a race is
 -- so still (`verdicts_kept`). Assumes nothing.
-use Prim.Native.Nat.{ℕ, zero, suc, ◌+◌, ◌<◌, ◌≤◌}
+use Prim.Native.Nat.{ℕ, zero, suc, ◌+◌, ◌<◌}
 use mathlib.Core.Path.{◌≡◌, refl, sym, ap, ◌∙◌}
-use mathlib.Core.Bool.{and-false}
 use mathlib.Core.List.{List, map}
-use mathlib.Core.Logic.{◌≢◌}
 use native.Mathlib.Omega.{arith}
-use lib.Dec.{ltb}
 use lib.ListN.{length, get_or, length-map}
 use lib.Seq.{ext_get_or}
-use borrow.Author.Tests.{eq-eqb, ne_eqb, lt-ltb, le-ltb}
-use Rattle.trace.specs.Trace.{Trace, trace_of, HALT}
-use Rattle.trace.specs.Line.{Line, Checked, passes, fails, halt_operand, halt_operand_before, line_after}
+use Rattle.trace.specs.Trace.{Trace, trace_of}
+use Rattle.trace.specs.Line.{Checked, passes, fails, halt_operand, halt_operand_before}
 use Rattle.trace.specs.Graph.{graph_events}
 use Rattle.trace.specs.Orders.{count_up, positions}
 use Rattle.trace.specs.Outcome.{says, Verdict, sizes, judgement}
@@ -20,9 +16,10 @@ use Rattle.trace.proofs.Lines.{line_more, graph_ge, graph_broken, passes_not_fai
 use Rattle.trace.proofs.Sizes.{sized, sizes_row, refused_not_says}
 use Rattle.trace.proofs.Demand1.{cleared_zero, size_refusal}
 use Rattle.trace.proofs.SameVerdict.{same_verdict}
-use Rattle.convert.specs.Conversion.{named_after, operand_at, first_break, converted_operands, ConvertOutcome, convert_checked, convert_outcome}
+use Rattle.convert.specs.Conversion.{operand_at, first_break, converted_operands, ConvertOutcome, convert_checked, convert_outcome}
 use Rattle.convert.specs.Demands.{ConvertDemand1, HaltsSet, ConvertSets, SameVerdicts}
 use Rattle.convert.specs.States.{SetBefore}
+use Rattle.convert.proofs.EachOperand.{set_at, other_at, later_at}
 
 -- ---- the operands, one by one
 
@@ -43,21 +40,6 @@ module _ (tr : Trace) (n : ℕ) where
   unfolding converted_operands
   converted_at p h = get_d_mapped (operand_at tr stop) 0 n p h ∙ ap (operand_at tr stop) (omega arith)
 
-  -- A halt before the first event that breaks a rule names the task that resumes;
-  pub set_at : (p : ℕ) (line : Line) → p < stop → tr.kind p ≡ HALT → line_after halt_operand_before tr p ≡ passes line → operand_at tr stop p ≡ halt_operand line
-  unfolding operand_at named_after
-  set_at p line h k e = rw (lt-ltb p stop h, eq-eqb (tr.kind p) HALT k, e) refl
-
-  -- no other event changes,
-  pub other_at : (p : ℕ) → tr.kind p ≢ HALT → operand_at tr stop p ≡ tr.operand p
-  unfolding operand_at
-  other_at p k = rw (ne_eqb (tr.kind p) HALT k, and-false (ltb p stop)) refl
-
-  -- and none from there on.
-  pub later_at : (p : ℕ) → stop ≤ p → operand_at tr stop p ≡ tr.operand p
-  unfolding operand_at
-  later_at p h = rw (le-ltb p stop h) refl
-
   -- THE OPERANDS ARE SET as K6 says.
   pub converted_set : HaltsSet tr n (converted_operands tr n)
   unfolding first_break
@@ -65,12 +47,12 @@ module _ (tr : Trace) (n : ℕ) where
       record {
         all_events = converted_length;
         sets = λ p line h k kept before.
-            converted_at p h ∙ set_at p line (graph_ge halt_operand_before tr (suc p) n kept.line h kept.reached) k before;
-        others = λ p h k. converted_at p h ∙ other_at p k;
+            converted_at p h ∙ set_at tr n p line (graph_ge halt_operand_before tr (suc p) n kept.line h kept.reached) k before;
+        others = λ p h k. converted_at p h ∙ other_at tr n p k;
         from_break = λ q number p b l h.
             let broken = line_more halt_operand_before tr q b.line b.kept_before ∙ b.broken in
             let at : graph_events halt_operand_before tr n ≡ q = graph_broken halt_operand_before tr q n number b.line (omega arith) b.kept_before broken in
-            converted_at p h ∙ later_at p (omega arith);
+            converted_at p h ∙ later_at tr n p (omega arith);
       }
 
 -- ---- the verdicts

@@ -1,5 +1,7 @@
 // The conversion of stored traces, whose halts have the operand 0: each gets the task that resumes as its operand. What it answers and leaves is defined in
 // `specs/`.
+#![tactic(auto)]
+
 ghost use Rattle.std.specs.Prelude.{◌≡◌, length};
 ghost use Rattle.trace.proofs.Sizes.{Sized};
 ghost use Rattle.convert.specs.Conversion.{convert_gives, convert_outcome, conversion_reply};
@@ -11,7 +13,7 @@ use sizes::WORKSPACE_CELLS;
 use trace::{HALT, Refusal};
 
 // What the conversion answers.
-#[derive(Drop)]
+#[derive(Clone, Copy)]
 pub enum Conversion {
     Converted,
     Refused(Refusal),

@@ -2,7 +2,6 @@
 -- Assumes nothing.
 use Prim.Native.Nat.{ℕ, suc, max, ◌+◌, ◌≤◌, ◌<◌}
 use mathlib.Core.Path.{◌≡◌, sym, ◌∙◌}
-use mathlib.Core.Option.{none}
 use mathlib.Core.Logic.{◌≢◌}
 use native.Mathlib.Omega.{arith}
 use Rattle.trace.specs.Trace.{TASKS}
@@ -72,31 +71,6 @@ module _ {parent : Parents} (f : Forest parent) {x y : ℕ} (ix : IsTop parent x
 
   module _ {height next : ℕ → ℕ} (w : Heights parent height) (hung-y : next y ≡ max (height x + 1) (height y))
       (kept : (h : ℕ) → h < TASKS → h ≢ y → next h ≡ height h) where
-    most_hung : (t : ℕ) → t < TASKS → links_of after t ≤ next (top_of after t)
-    most_hung t l =
-        let was = w.most t l in
-        let top = top_of parent t in
-        either (same_or_not top x)
-        (λ e.
-        let longer = moved_longer f ix iy distinct t l e in
-        let of-x : links_of parent t ≤ height x = rw e at was in
-        rw (longer.tops, longer.links, hung-y) (omega arith))
-        (λ n.
-        let other = moved_other f ix iy distinct t l n in
-        rw (other.tops, other.links)
-        (either (same_or_not top y) (λ e. let of-y : links_of parent t ≤ height y = rw e at was in rw (e, hung-y) (omega arith))
-        (λ m. rw (kept top (top_is_top f t l).below m) was)))
-
-    reached_hung : Reached after y (max (height x + 1) (height y))
-    reached_hung =
-        either (lt_or_le (height x) (height y))
-        (λ l.
-        let e : max (height x + 1) (height y) ≡ height y = omega arith in
-        rw e (reached_kept y (height y) (w.reached y iy.below)))
-        (λ l.
-        let e : max (height x + 1) (height y) ≡ suc (height x) = omega arith in
-        rw e (reached_longer (height x) (w.reached x ix.below)))
-
     pub heights_hung : Heights after next
     heights_hung =
         record {
@@ -105,6 +79,31 @@ module _ {parent : Parents} (f : Forest parent) {x y : ℕ} (ix : IsTop parent x
               either (same_or_not h y) (λ e. rw (e, hung-y) reached_hung)
               (λ m. rw (kept h l m) (reached_kept h (height h) (w.reached h l)));
         }
+      where
+        most_hung : (t : ℕ) → t < TASKS → links_of after t ≤ next (top_of after t)
+        most_hung t l =
+            let was = w.most t l in
+            let top = top_of parent t in
+            either (same_or_not top x)
+            (λ e.
+            let longer = moved_longer f ix iy distinct t l e in
+            let of-x : links_of parent t ≤ height x = rw e at was in
+            rw (longer.tops, longer.links, hung-y) (omega arith))
+            (λ n.
+            let other = moved_other f ix iy distinct t l n in
+            rw (other.tops, other.links)
+            (either (same_or_not top y) (λ e. let of-y : links_of parent t ≤ height y = rw e at was in rw (e, hung-y) (omega arith))
+            (λ m. rw (kept top (top_is_top f t l).below m) was)))
+
+        reached_hung : Reached after y (max (height x + 1) (height y))
+        reached_hung =
+            either (lt_or_le (height x) (height y))
+            (λ l.
+            let e : max (height x + 1) (height y) ≡ height y = omega arith in
+            rw e (reached_kept y (height y) (w.reached y iy.below)))
+            (λ l.
+            let e : max (height x + 1) (height y) ≡ suc (height x) = omega arith in
+            rw e (reached_longer (height x) (w.reached x ix.below)))
 
 -- ---- the largest of them
 

@@ -1,6 +1,6 @@
 -- Runs that tell another table of joins, beside the runs `chains` of `trace`: the largest number of links after all events, computed. They stand here since every
 -- edit of `trace` would compute them again. Assumes nothing.
-use Prim.Native.Nat.{ℕ, ◌+◌}
+use Prim.Native.Nat.{ℕ}
 use mathlib.Core.Path.{◌≡◌, refl}
 use mathlib.Core.List.{List, [], ◌∷◌, ◌++◌, map}
 use lib.ListN.{length}

@@ -1,16 +1,15 @@
 -- Laws of the tops of a forest: a top is its own top, and at most 10 links lead to it, since each doubles the tasks. Assumes nothing.
-use Prim.Native.Nat.{ℕ, suc, ◌≤◌, ◌<◌, ◌^◌}
+use Prim.Native.Nat.{ℕ, suc, ◌≤◌, ◌<◌}
 use mathlib.Core.Path.{◌≡◌, sym, ap, ◌∙◌}
 use mathlib.Core.Option.{some}
 use native.Mathlib.Omega.{arith}
-use native.Mathlib.Nat.{pow-le-pow_right}
 use lib.Dec.{eqb}
 use Rattle.trace.specs.Trace.{TASKS}
 use Rattle.trace.specs.Joins.{Parents, Chain, top, up, top_of, links_of, MAX_LINKS, tree_size}
-use Rattle.trace.proofs.Tests.{either, lt_or_le}
 use Rattle.trace.proofs.Counts.{count_le}
 use Rattle.trace.proofs.Chains.{chain_top, chain_links, chain_rest, chain_same}
 use Rattle.forest.specs.Tables.{IsTop, Forest}
+use Rattle.forest.proofs.Exponents.{exponent_few}
 
 -- A top is its own top, no link away.
 module _ {parent : Parents} {h : ℕ} (i : IsTop parent h) where
@@ -24,12 +23,6 @@ module _ {parent : Parents} {h : ℕ} (i : IsTop parent h) where
 chain_is_top : {parent : Parents} {t h k : ℕ} → Forest parent → Chain parent t h k → t < TASKS → IsTop parent h
 chain_is_top f (top e) l = record { below = l; free = e }
 chain_is_top f (up {t = t} {p = p} e r) l = chain_is_top f r (f.inside t p l e)
-
--- A power of 2 that is at most 1,024 has an exponent of at most 10.
-exponent_few : (k : ℕ) → 2 ^ k ≤ TASKS → k ≤ MAX_LINKS
-exponent_few k h =
-    either (lt_or_le MAX_LINKS k)
-    (λ l. absurd (let g : 2 ^ 11 ≤ 2 ^ k = pow-le-pow_right {n = 2} (omega arith) {i = 11} {j = k} l in omega arith)) (λ l. l)
 
 -- No tree has more tasks than there are.
 pub tree_few : (parent : Parents) (h : ℕ) → tree_size parent h ≤ TASKS

@@ -1,6 +1,8 @@
 // The table of joins (document 02, K2) in the first three tables of a workspace: a forest of the tasks, the search for a task's top, the join of two trees, and
 // the most links that a search follows.
 // The definitions in `specs/` say what a forest is and what each function leaves; the laws in `proofs/` say what that means for the table.
+#![tactic(auto)]
+
 ghost use Rattle.std.specs.Prelude.{◌≡◌, ◌≤◌, ◌<◌};
 ghost use Rattle.trace.specs.Trace.{TASKS};
 ghost use Rattle.trace.specs.Search.{largest_below};
@@ -23,7 +25,7 @@ const HEIGHT: usize = 2048;
 pub const FOREST_CELLS: usize = 3072;
 
 // The top of a task's tree, and the number of links between the two.
-#[derive(Drop)]
+#[derive(Clone, Copy)]
 pub struct Top {
     pub task: u16,
     pub links: u16,

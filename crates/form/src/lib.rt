@@ -1,6 +1,7 @@
 // The lines of a trace text. The definitions in `specs/` say what a text decides; `text` finds it.
+#![tactic(auto)]
 
-#[derive(Drop)]
+#[derive(Clone, Copy)]
 pub enum Operation {
     Read,
     Write,
@@ -9,7 +10,7 @@ pub enum Operation {
 }
 
 // A line of the text form. Its source line is read and not used.
-#[derive(Drop)]
+#[derive(Clone, Copy)]
 pub struct Line {
     pub task: u16,
     pub operation: Operation,

@@ -10,8 +10,7 @@ use mir.Syntax.{w64}
 use mir.Val.{SFits, to_z, of_z}
 use mir.Facts.{to_z-of_z}
 use borrow.Author.Tests.{ltb-true, lt-ltb, le-ltb}
-use Rattle.libc.specs.Io.{Moved}
-use Rattle.input.specs.Reading.{decided}
+use Rattle.input.specs.Reading.{Moved, decided}
 use Rattle.input.specs.declared.Input.TheVariants.{Bytes, Failed}
 use Rattle.input.specs.declared.Step.TheVariants.{Again, Ended}
 

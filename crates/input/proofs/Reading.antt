@@ -14,12 +14,11 @@ use borrow.Rule.Slice.PartMut.{mid_of, put_mid, mid_len, same_len_mid, take_put}
 use mir.Syntax.{w64}
 use mir.Val.{SFits}
 use mir.Facts.{to_z-of_z}
-use Rattle.libc.specs.Io.{Moved}
 use Rattle.input.specs.declared.Input.{Input}
 use Rattle.input.specs.declared.Input.TheVariants.{Bytes, Failed, Arguments}
 use Rattle.input.specs.declared.Step.{Step}
 use Rattle.input.specs.declared.Step.TheVariants.{Again, Ended}
-use Rattle.input.specs.Reading.{OneRead, decided, ReadOnce, Reads, none, more, full, ended, TextRead, Received}
+use Rattle.input.specs.Reading.{Moved, OneRead, decided, ReadOnce, Reads, none, more, full, ended, TextRead, Received}
 use Rattle.input.proofs.Deciding.{back}
 
 -- ---- one read

@@ -1,14 +1,18 @@
--- WHAT IS READ. The C library's contract of `read` bounds the number that it gives, and says nothing of the bytes. So what was read is stated over reads: there
--- are some that give this buffer and this count. That they are the calls which the code makes no contract can say: it is trusted of the few lines that make
+-- WHAT IS READ. The contract of `read` bounds the number that it gives, and says nothing of the bytes of standard input. So what was read is stated over reads:
+-- there are some that give this buffer and this count. That they are the calls which the code makes no contract can say: it is trusted of the few lines that make
 -- them. What the number of a read decides is no matter of trust: `decided` is an equation. Assumes nothing.
 use Rattle.std.specs.Prelude.{ℕ, zero, suc, ◌+◌, ◌-◌, ◌≤◌, ◌<◌, ◌≡◌, cond, List, [], ◌++◌, ltb, length, take, drop, ℤ, pos, negsuc}
-use Rattle.libc.specs.Io.{Moved}
 use Rattle.input.specs.declared.Input.{Input}
 use Rattle.input.specs.declared.Input.TheVariants.{Bytes, Failed, Arguments}
 use Rattle.input.specs.declared.Step.{Step}
 use Rattle.input.specs.declared.Step.TheVariants.{Again, Ended}
 
 -- ---- one read
+
+-- The number of a read for which there was room for n bytes: -1, or how many it gave, at most n.
+abbrev pub Moved : ℕ → ℤ → Type 0
+Moved n (pos k) = k ≤ n
+Moved n (negsuc k) = k ≡ 0
 
 -- One read into the bytes of a buffer behind the first `filled`: the number that it gave is -1, or at most as many as there was room for; the length and the
 -- first bytes stay.

@@ -1,12 +1,13 @@
-// Standard input, read into a lent buffer. Programs share it.
-ghost use Rattle.std.specs.Prelude.{◌≡◌, ◌-◌, ◌≤◌, length};
-ghost use Rattle.libc.specs.Io.{Moved};
-ghost use Rattle.input.specs.Reading.{decided, ReadOnce, TextRead, Received};
+// A program's input, read into a lent buffer. Programs share it.
+#![tactic(auto)]
 
-use libc::STDIN_FILENO;
+ghost use Rattle.std.specs.Prelude.{◌≡◌, ◌-◌, ◌≤◌, length};
+ghost use Rattle.input.specs.Reading.{Moved, decided, ReadOnce, TextRead, Received};
+
+use std::io::Read;
 
 // What a program takes in: so many bytes of text, or that a read failed, or arguments, of which it takes none.
-#[derive(Drop)]
+#[derive(Clone, Copy)]
 pub enum Input {
     Bytes(usize),
     Failed,
@@ -14,7 +15,7 @@ pub enum Input {
 }
 
 // What one read decides: to read again, with so many bytes filled, or that the reading has ended.
-#[derive(Drop)]
+#[derive(Clone, Copy)]
 enum Step {
     Again(usize),
     Ended(Input),
@@ -40,26 +41,36 @@ fn decide(got: isize, filled: usize, room: usize) -> Step
     Step::Ended(Input::Bytes(total))
 }
 
-// One read, into the bytes of the buffer behind the first `filled`. The contract says that there is a number which decides. That it is the number which the C
-// library's `read` gave, and that the bytes which `read` put there are the next of the input, no contract can say: that `read` is lent the rest of the buffer
-// and its number handed on is trusted, here and in the loop below, and tested.
-fn read_more(text: &mut [u8], filled: usize) -> Step
+// One read into all of `rest`, and its number: how many bytes it gave, or -1 where it failed.
+fn read_number<R: Read>(reader: &mut R, rest: &mut [u8]) -> isize
+    ensures { Moved (length rest.old) result }
+{
+    match reader.read(rest) {
+        Ok(more) => more as isize,
+        Err(_) => -1,
+    }
+}
+
+// One read, into the bytes of the buffer behind the first `filled`. The contract says that there is a number which decides. That it is the number which
+// `read` gave, and that the bytes which `read` put there are the next of standard input, no contract can say: that `read` is lent the rest of the buffer and its
+// number handed on is trusted, here, in `read_number` and in the loop below, and tested.
+fn read_more<R: Read>(reader: &mut R, text: &mut [u8], filled: usize) -> Step
     requires { filled ≤ length text.old }
     ensures { ReadOnce filled text.old text.new result }
 {
     let room = text.len();
     let rest = &mut text[filled..];
-    let got = libc::read(STDIN_FILENO, rest);
+    let got = read_number(reader, rest);
     decide(got, filled, room)
 }
 
-// Standard input to its end, or until the buffer is full. A pipe may hand out a few bytes at a time.
-pub fn read_text(text: &mut [u8]) -> Input
+// The input to its end, or until the buffer is full. A pipe may hand out a few bytes at a time.
+pub fn read_text<R: Read>(reader: &mut R, text: &mut [u8]) -> Input
     ensures { TextRead text.old text.new result }
 {
     let mut filled: usize = 0;
     loop {
-        match read_more(text, filled) {
+        match read_more(reader, text, filled) {
             Step::Again(more) => filled = more,
             Step::Ended(input) => return input,
         }
@@ -67,11 +78,11 @@ pub fn read_text(text: &mut [u8]) -> Input
 }
 
 // What a program takes in that was started with `words` words, its own name among them.
-pub fn receive(words: usize, text: &mut [u8]) -> Input
+pub fn receive<R: Read>(reader: &mut R, words: usize, text: &mut [u8]) -> Input
     ensures { Received words text.old text.new result }
 {
     if words > 1 {
         return Input::Arguments;
     }
-    read_text(text)
+    read_text(reader, text)
 }

@@ -1,5 +1,7 @@
 // The judge of a whole trace, in a workspace that the caller lends. It takes every length of every slice; what it answers and leaves is defined in crate
 // `trace`, and the contract carries the owner's three demands and, in the clause *chains*, what K2 says of the number of links.
+#![tactic(auto)]
+
 ghost use Rattle.std.specs.Prelude.{◌≡◌, length};
 ghost use Rattle.trace.specs.Lent.{lent_trace};
 ghost use Rattle.trace.specs.Line.{passes};

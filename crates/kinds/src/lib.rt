@@ -1,4 +1,6 @@
 // What the code asks of the kinds of events: which are accesses and which move the line, and which accesses of one location conflict.
+#![tactic(auto)]
+
 ghost use Rattle.std.specs.Prelude.{◌≡◌, true, not};
 ghost use Rattle.trace.specs.Trace.{is_kind, is_access};
 ghost use Rattle.trace.specs.Race.{conflicting};

@@ -1,5 +1,7 @@
 // The rules over the line of tasks: the two stacks that the line is, in the cells of one lent workspace, and one event's rows.
 // The definitions in `specs/` say what each function leaves in the cells; the laws in `proofs/` tie these cells to the run of a trace.
+#![tactic(auto)]
+
 ghost use Rattle.std.specs.Prelude.{◌≡◌, ◌+◌, ◌-◌, ◌≤◌, ◌<◌, length};
 ghost use Rattle.trace.specs.Trace.{TASKS, WORKSPACE_CELLS};
 ghost use Rattle.line.specs.Rules.{Fork, Join, Halt, rule_of};
@@ -21,7 +23,7 @@ const LEFT: usize = 7168;
 const ACTIVE: usize = 8192;
 
 // How many tasks are active, and how many have halted and are not joined yet.
-#[derive(Drop)]
+#[derive(Clone, Copy)]
 pub struct Line {
     pub active: usize,
     pub left: usize,

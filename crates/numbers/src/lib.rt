@@ -1,17 +1,19 @@
 // Decimal numbers in a text, with no leading zero: for the text form and for plans.
+#![tactic(auto)]
+
 ghost use Rattle.std.specs.Prelude.{◌≡◌, drop};
 ghost use Rattle.numbers.specs.Reading.{digit, extended, number};
 ghost use Rattle.numbers.specs.Answers.{numeral_of, after_number, Within};
 
 // A number so far, or the end of it.
-#[derive(Drop)]
+#[derive(Clone, Copy)]
 enum Numeral {
     Number(u16),
     Stop,
 }
 
 // A number and the place after it.
-#[derive(Drop)]
+#[derive(Clone, Copy)]
 pub enum NumberToken {
     Value(u16, usize),
     NoNumber,

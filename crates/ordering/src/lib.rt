@@ -1,4 +1,6 @@
 // The ordering call: does event p reach event q? What it answers and leaves is defined in crate `trace`.
+#![tactic(auto)]
+
 ghost use Rattle.std.specs.Prelude.{◌≡◌, ◌&&◌, ltb, suc, length};
 ghost use Rattle.trace.specs.Line.{passes};
 ghost use Rattle.trace.specs.Outcome.{says, refused, ordering_checked, ordering_outcome};

@@ -1,4 +1,6 @@
 // From an answer to the program's output: `render` writes the bytes to a lent buffer.
+#![tactic(auto)]
+
 mod bytes;
 
 ghost use Rattle.std.specs.Prelude.{◌≡◌};

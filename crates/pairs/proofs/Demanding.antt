@@ -1,15 +1,15 @@
 -- What is demanded of the call holds of its outcome, for everything that can be lent. Assumes nothing.
-use Prim.Native.Nat.{ℕ, ◌+◌, ◌<◌, ◌≤◌}
-use mathlib.Core.Path.{◌≡◌, refl, sym, ap, ◌∙◌}
+use Prim.Native.Nat.{ℕ, ◌<◌, ◌≤◌}
+use mathlib.Core.Path.{◌≡◌, refl, sym, ap}
 use mathlib.Core.Bool.{true, false}
 use mathlib.Core.List.{List, ◌++◌, map}
 use mathlib.Core.Logic.{◌⊎◌, inl, inr}
 use native.Mathlib.Omega.{arith}
-use lib.ListN.{length, get_or, drop, length-map, length-append, length-drop, get_or-append}
+use lib.ListN.{length, drop, length-map, length-append, length-drop, get_or-append}
 use lib.Seq.{drop_at}
 use Rattle.trace.specs.Trace.{Trace, trace_of}
 use Rattle.trace.specs.Line.{Line, Checked, passes, fails, row, halt_operand, line_after}
-use Rattle.trace.specs.Outcome.{Reply, says, refused, sizes, cleared}
+use Rattle.trace.specs.Outcome.{says, refused, sizes, cleared}
 use Rattle.trace.specs.Demands.{EventRefusal, KeepsRules, BreaksFirst}
 use Rattle.trace.proofs.Tests.{by_test, either, test_or, test_lt}
 use Rattle.trace.proofs.Lines.{passes_not_fails, step_row, kept_not_broken, broken_once, one_row, broken_at_graph}

@@ -1,12 +1,11 @@
 -- The list by numbers, none where no access races, else counted and then written, or refused by row 20; and that it is the list of K7. Assumes nothing.
 use Prim.Native.Nat.{ℕ, suc, ◌+◌, ◌<◌, ◌≤◌}
 use mathlib.Core.Path.{◌≡◌, refl, sym, ap₂, subst, ◌∙◌}
-use mathlib.Core.Bool.{Bool, true, false, true≢false, false≢true, ◌||◌}
+use mathlib.Core.Bool.{Bool, true, false, false≢true}
 use mathlib.Core.List.{List, [], map}
 use mathlib.Core.Logic.{◌≢◌, inl, inr}
 use native.Mathlib.Omega.{arith}
-use lib.Dec.{ltb}
-use lib.ListN.{length, drop, length-map}
+use lib.ListN.{length, length-map}
 use borrow.Author.Tests.{le-ltb}
 use Rattle.trace.specs.Trace.{Trace, trace_of, WORKSPACE_CELLS}
 use Rattle.trace.specs.Line.{passes, fails, row, halt_operand, line_after}
@@ -18,9 +17,8 @@ use Rattle.trace.proofs.Numbers.{Numbers}
 use Rattle.trace.proofs.Searches.{test_race}
 use Rattle.trace.proofs.Sizes.{Sized}
 use Rattle.trace.proofs.Lists.{sets_front}
-use Rattle.cells.specs.Cells.{SameFrom, Rest, NUMBER, number_in}
+use Rattle.cells.specs.Cells.{SameFrom, Rest}
 use Rattle.cells.proofs.Rests.{same_from_higher, same_beyond, rest_beyond, rest_trans}
-use Rattle.ranks.specs.Lists.{NEXT}
 use Rattle.ranks.specs.States.{Leading, own_number, Spread, SegmentsIn, RankSays}
 use Rattle.ranks.proofs.Spreading.{spread_own, spread_segments}
 use Rattle.scan.specs.Numbered.{Numbered, FirstRace}
@@ -32,7 +30,7 @@ use Rattle.pairs.specs.Close.{race_by, written, Fits, TABLES, Listable, Ready, r
 use Rattle.pairs.proofs.Partners.{test_race_by, race_by_same}
 use Rattle.pairs.proofs.Storing.{no_length}
 use Rattle.pairs.proofs.PairLists.{below_none, below_agree}
-use Rattle.pairs.proofs.Passing.{racing_same, ready_same}
+use Rattle.pairs.proofs.Passing.{racing_same}
 
 -- ---- the slices and row 20
 

@@ -3,16 +3,16 @@
 use Prim.Native.Nat.{ℕ, zero, suc, ◌+◌, ◌-◌, ◌*◌, ◌<◌, ◌≤◌}
 use mathlib.Core.Path.{◌≡◌, refl, sym, ap, ap₂, ◌∙◌}
 use mathlib.Core.Bool.{Bool, true, false}
-use mathlib.Core.List.{List, [], ◌∷◌, ◌++◌, append-nil, map, map-append}
+use mathlib.Core.List.{List, [], ◌++◌, map, map-append}
 use native.Mathlib.Omega.{arith}
 use native.Mathlib.Nat.{suc-mul, mul-suc}
 use lib.ListN.{length, length-append, length-map}
 use lib.Seq.{sets, length-sets}
-use Rattle.trace.specs.Orders.{count_up, chosen}
+use Rattle.trace.specs.Orders.{chosen}
 use Rattle.trace.proofs.Tests.{either, lt_or_le}
 use Rattle.trace.proofs.Lists.{select_count_up_same, chosen_empty, chosen_cut, chosen_few, sets_append}
 use Rattle.pairs.specs.Pairs.{CLOSE, Pair, pair, pairs_at, pairs_below, Slices, slices}
-use Rattle.pairs.specs.Close.{stored, written}
+use Rattle.pairs.specs.Close.{written}
 
 -- ---- the pairs of one t
 

@@ -1,10 +1,10 @@
 -- The race test of one earlier event, as the code asks it of what it keeps of an access. Assumes nothing.
-use Prim.Native.Nat.{ℕ, suc, ◌<◌, ◌≤◌}
-use mathlib.Core.Path.{◌≡◌, refl, sym, ap, ap₂, ◌∙◌}
-use mathlib.Core.Bool.{Bool, true, false, ◌&&◌, ◌||◌, or-false}
+use Prim.Native.Nat.{ℕ, ◌<◌}
+use mathlib.Core.Path.{◌≡◌, refl, ◌∙◌}
+use mathlib.Core.Bool.{Bool, true, false, ◌&&◌, or-false}
 use mathlib.Core.List.{List}
-use mathlib.Core.Logic.{◌⊎◌, inl, inr, ◌≢◌}
-use lib.Dec.{eqb, ltb}
+use mathlib.Core.Logic.{inl, inr}
+use lib.Dec.{eqb}
 use lib.ListN.{get_or}
 use borrow.Author.Tests.{ne_eqb}
 use Rattle.trace.specs.Trace.{READ, WRITE, SUM, is_access}
@@ -12,7 +12,7 @@ use Rattle.trace.specs.Race.{conflicting}
 use Rattle.trace.proofs.Tests.{Tests, by_test, either, tests_map, tests_fails, test_self, test_eq, test_lt, test_and}
 use Rattle.trace.proofs.EventKinds.{test_access}
 use Rattle.cells.specs.Cells.{number_in}
-use Rattle.scan.specs.Numbered.{Against, RaceByNumber}
+use Rattle.scan.specs.Numbered.{RaceByNumber}
 use Rattle.pairs.specs.declared.Access.{Access}
 use Rattle.pairs.specs.Close.{race_by, AccessAt, conflicts_in, partner_in}
 

@@ -1,5 +1,5 @@
 -- The loop over the events: what holds before each, and that in the end all pairs are counted or written. Assumes nothing.
-use Prim.Native.Nat.{ℕ, suc, ◌+◌, ◌-◌, ◌*◌, ◌<◌, ◌≤◌}
+use Prim.Native.Nat.{ℕ, suc, ◌+◌, ◌-◌, ◌<◌, ◌≤◌}
 use mathlib.Core.Path.{◌≡◌, refl, sym, ap, fun_ext, ◌∙◌}
 use mathlib.Core.Bool.{Bool, true, false, true≢false}
 use mathlib.Core.List.{List, [], append-nil}
@@ -8,18 +8,17 @@ use native.Mathlib.Omega.{arith}
 use native.Mathlib.Numerals.{add-one}
 use lib.ListN.{length, get_or, set, length-set}
 use lib.Seq.{get_or-set_same, get_or-set_other}
-use Rattle.trace.specs.Trace.{is_access, LOCATIONS, WORKSPACE_CELLS}
+use Rattle.trace.specs.Trace.{is_access, LOCATIONS}
 use Rattle.trace.proofs.Tests.{by_test, either, same_or_not, last_or_below, tests_false}
 use Rattle.cells.specs.Cells.{Filled, SameFrom, NUMBER, number_in}
 use Rattle.cells.proofs.Rests.{same_from_refl, same_from_trans, same_from_higher}
-use Rattle.ranks.specs.Lists.{NEXT}
 use Rattle.ranks.specs.States.{own_number}
 use Rattle.scan.specs.Numbered.{RaceByNumber, FirstRace}
 use Rattle.scan.specs.Tables.{TABLES as SCAN-TABLES, Tables, RaceSays, held_against}
 use Rattle.scan.proofs.Largest.{keeps_tested, tables_same, tables_move, tables_kept, race_by_table}
 use Rattle.scan.proofs.Scanning.{numbers_same, numbered_same}
-use Rattle.pairs.specs.Pairs.{CLOSE, Pair, pairs_at, pairs_below, Slices, slices}
-use Rattle.pairs.specs.Close.{race_by, SEEN, Seen, written, Fits, close_in, Visitable, Taken, VisitSays, TABLES, Listable, Ready, racing, PassSays}
+use Rattle.pairs.specs.Pairs.{pairs_at, pairs_below, Slices}
+use Rattle.pairs.specs.Close.{race_by, SEEN, Seen, written, Fits, close_in, Visitable, Taken, VisitSays, TABLES, Ready, racing, PassSays}
 use Rattle.pairs.proofs.Partners.{test_race_by, race_by_same}
 use Rattle.pairs.proofs.PairLists.{at_none, at_agree, below_next, below_length, below_few, below_grows, below_none, written_none, written_more}
 use Rattle.pairs.proofs.PairLists.{written_lengths}

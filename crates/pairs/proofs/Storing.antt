@@ -4,16 +4,14 @@ use Prim.Native.Nat.{ℕ, zero, suc, ◌+◌, ◌-◌, max, ◌<◌, ◌≤◌}
 use mathlib.Core.Path.{◌≡◌, refl, sym, ap, subst, ◌∙◌}
 use mathlib.Core.Bool.{Bool, true, false}
 use mathlib.Core.List.{List, [], ◌∷◌, ◌++◌, append-nil, map}
-use mathlib.Core.Logic.{◌⊎◌, inl, inr}
 use native.Mathlib.Omega.{arith}
-use native.Mathlib.Nat.{add-zero}
 use lib.Dec.{eqb}
 use lib.ListN.{length, get_or, set, replicate, length-set, length-append, length-replicate}
 use lib.Seq.{sets, ext_get_or, get_or-drop, get_or-set_same, get_or-set_other, length-sets}
 use mir.Val.{bool_byte}
 use Rattle.trace.specs.Orders.{count_up, chosen}
 use Rattle.pairs.specs.Pairs.{CLOSE}
-use Rattle.trace.proofs.Tests.{by_test, either, same_or_not, lt_or_le}
+use Rattle.trace.proofs.Tests.{either, same_or_not, lt_or_le}
 use Rattle.ranks.proofs.Leaves.{bit_few}
 use Rattle.trace.proofs.Lists.{select_append, count_up_append, chosen_none, chosen_empty, chosen_passed, chosen_failed, sets_append, drop_sets}
 

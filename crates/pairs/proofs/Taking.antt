@@ -1,6 +1,6 @@
 -- The partners of one access: they stand in its window, before the position from which on its location is not seen, and are stored as the pairs of t. Assumes
 -- nothing.
-use Prim.Native.Nat.{ℕ, ◌+◌, ◌-◌, ◌*◌, ◌<◌, ◌≤◌}
+use Prim.Native.Nat.{ℕ, ◌+◌, ◌-◌, ◌<◌, ◌≤◌}
 use mathlib.Core.Path.{◌≡◌, refl, sym, ap, ap₂, ◌∙◌}
 use mathlib.Core.Bool.{Bool, true, false}
 use mathlib.Core.List.{List, [], ◌∷◌, map}
@@ -13,10 +13,10 @@ use Rattle.trace.specs.Trace.{is_access, LOCATIONS}
 use Rattle.trace.specs.Orders.{chosen}
 use Rattle.trace.proofs.Tests.{tests_false}
 use Rattle.trace.proofs.Lists.{chosen_empty, chosen_cut}
-use Rattle.cells.specs.Cells.{NUMBER, number_in}
+use Rattle.cells.specs.Cells.{number_in}
 use Rattle.ranks.proofs.Leaves.{bit_few}
 use Rattle.pairs.specs.declared.Access.{Access}
-use Rattle.pairs.specs.Pairs.{CLOSE, Pair, pair, pairs_at, Slices, slices}
+use Rattle.pairs.specs.Pairs.{CLOSE, pair, pairs_at, Slices, slices}
 use Rattle.pairs.specs.Close.{race_by, AccessAt, partner_in, Readable, Marked, is_marked, Writable, SEEN, written, close_in, Visitable, Taken}
 use Rattle.pairs.proofs.Partners.{partner_is, test_race_by}
 use Rattle.pairs.proofs.Storing.{no_length, map_replicate}

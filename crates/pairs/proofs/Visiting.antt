@@ -1,18 +1,18 @@
 -- One event: what it leaves. The tables of `scan` stand below SEEN and the events' numbers, so that keeping an access there changes neither. Assumes nothing.
-use Prim.Native.Nat.{ℕ, ◌+◌, ◌<◌}
+use Prim.Native.Nat.{ℕ, ◌+◌}
 use mathlib.Core.Path.{◌≡◌, refl, sym, ◌∙◌}
 use mathlib.Core.Bool.{Bool, true, false, true≢false}
 use mathlib.Core.List.{List}
 use mathlib.Core.Logic.{◌⊎◌}
 use native.Mathlib.Omega.{arith}
-use lib.ListN.{length, get_or, set}
-use Rattle.trace.specs.Trace.{is_access, LOCATIONS}
+use lib.ListN.{get_or, set}
+use Rattle.trace.specs.Trace.{is_access}
 use Rattle.trace.proofs.Tests.{either}
 use Rattle.cells.specs.Cells.{SameFrom, NUMBER, number_in}
 use Rattle.scan.specs.Tables.{TABLES as SCAN-TABLES, Testable, RaceSays}
 use Rattle.scan.proofs.Largest.{keeps_tested, keeps_beyond}
 use Rattle.pairs.specs.Pairs.{Slices}
-use Rattle.pairs.specs.Close.{race_by, SEEN, Seen, Fits, close_in, Visitable, Taken, VisitSays}
+use Rattle.pairs.specs.Close.{race_by, SEEN, Seen, close_in, Visitable, Taken, VisitSays}
 use Rattle.pairs.proofs.Partners.{race_by_same}
 use Rattle.pairs.proofs.PairLists.{at_agree}
 

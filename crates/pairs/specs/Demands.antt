@@ -1,5 +1,5 @@
 -- What the call for pairs is asked for (document 02, K7), as records that a contract can cite. Assumes nothing.
-use Rattle.std.specs.Prelude.{ℕ, ◌+◌, ◌<◌, ◌≤◌, ◌≡◌, List, [], ◌⊎◌, ◌↔◌, length, get_or, drop}
+use Rattle.std.specs.Prelude.{ℕ, ◌+◌, ◌<◌, ◌≤◌, ◌≡◌, List, ◌⊎◌, ◌↔◌, length, get_or, drop}
 use Rattle.trace.specs.Trace.{Trace, trace_of}
 use Rattle.trace.specs.Line.{passes, fails, halt_operand}
 use Rattle.trace.specs.Race.{Race}

@@ -1,5 +1,5 @@
 -- Traces to go by, computed: their close pairs. Assumes nothing.
-use Rattle.std.specs.Prelude.{ℕ, ◌≡◌, refl, List, [], ◌∷◌, length}
+use Rattle.std.specs.Prelude.{◌≡◌, refl, List, [], ◌∷◌, length}
 use Rattle.trace.specs.Trace.{Event, trace_of}
 use Rattle.trace.specs.Orders.{chosen}
 use Rattle.trace.specs.Runs.{◌read◌, ◌write◌, ◌sum◌, ◌fork◌, ◌join◌, ◌halt, kinds_of, tasks_of, operands_of}

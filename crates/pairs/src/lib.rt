@@ -1,6 +1,8 @@
 // Every close pair: the pairs of accesses s, t that race and are at most 256 events apart, written to two lent slices in order of t and then of s. What the call
 // answers and leaves is defined in `specs/`. Most accesses race with no earlier one, and the tables of `scan` say so. Of the others, the events that may be a
 // partner are held against them by location, kind and number: first to be counted, then to be written.
+#![tactic(auto)]
+
 ghost use Rattle.std.specs.Prelude.{◌≡◌, true, ◌+◌, ◌-◌, ◌≤◌, ◌<◌, length, get_or, replicate};
 ghost use Rattle.std.proofs.lemmas.List.Edits.{sets};
 ghost use Rattle.trace.specs.Trace.{is_access, LOCATIONS, WORKSPACE_CELLS};
@@ -27,14 +29,14 @@ const SHORT_SLICE: usize = 20;
 const SEEN: usize = 2048;
 
 // What the call answers: the number of pairs, or why none is written.
-#[derive(Drop)]
+#[derive(Clone, Copy)]
 pub enum Listing {
     Listed(usize),
     Refused(Refusal),
 }
 
 // What earlier events are held against: an access's location and number, and which kinds conflict with its own.
-#[derive(Drop)]
+#[derive(Clone, Copy)]
 struct Access {
     location: u16,
     number: u16,

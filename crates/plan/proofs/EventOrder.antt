@@ -76,20 +76,20 @@ accesses_parallel x next halt es fs {ls} {ms} i j =
     chosen_parts (λ e. is_access e.kind) (λ e. (e.kind, e.operand)) (event FORK x next) es (event HALT next halt) fs (event JOIN x next)
     ∙ rw (i, j, append-nil ms)
 
-accesses_from : (p : Plan) (x next : ℕ) → accesses (events_from p x next) ≡ leaves p
-unfolding is_access
-accesses_from (leaf Read l) x next = refl
-accesses_from (leaf Write l) x next = refl
-accesses_from (leaf Sum l) x next = refl
-accesses_from (pair Series a b) x next =
-    rw (accesses_append (events_from a x next) (events_from b x (next + forks a)), accesses_from a x next, accesses_from b x (next + forks a))
-accesses_from (pair Parallel a b) x next =
-    accesses_parallel x next _ (events_from a next (next + 1)) (events_from b x (next + 1 + forks a))
-    (accesses_from a next (next + 1)) (accesses_from b x (next + 1 + forks a))
-
 -- P "forks a task for G1, goes on with G2": the accesses are the leaves, from left to right.
 pub leaf_order : (p : Plan) → accesses (events_of p) ≡ leaves p
+unfolding is_access
 leaf_order p = accesses_from p 0 1
+  where
+    accesses_from : (p : Plan) (x next : ℕ) → accesses (events_from p x next) ≡ leaves p
+    accesses_from (leaf Read l) x next = refl
+    accesses_from (leaf Write l) x next = refl
+    accesses_from (leaf Sum l) x next = refl
+    accesses_from (pair Series a b) x next =
+        rw (accesses_append (events_from a x next) (events_from b x (next + forks a)), accesses_from a x next, accesses_from b x (next + forks a))
+    accesses_from (pair Parallel a b) x next =
+        accesses_parallel x next _ (events_from a next (next + 1)) (events_from b x (next + 1 + forks a))
+        (accesses_from a next (next + 1)) (accesses_from b x (next + 1 + forks a))
 
 -- ---- forks
 
@@ -116,17 +116,17 @@ forked_parallel x next m n halt es fs i j =
     ∙ rw (i, j, append-nil (count_up (next + 1 + m) n))
     (sym (count_up_add next 1 (m + n) ∙ ap (λ (z : List ℕ). next ∷ z) (count_up_add (next + 1) m n)))
 
-forked_from : (p : Plan) (x next : ℕ) → forked (events_from p x next) ≡ count_up next (forks p)
-forked_from (leaf Read l) x next = refl
-forked_from (leaf Write l) x next = refl
-forked_from (leaf Sum l) x next = refl
-forked_from (pair Series a b) x next =
-    rw (forked_append (events_from a x next) (events_from b x (next + forks a)), forked_from a x next, forked_from b x (next + forks a))
-    (sym (count_up_add next (forks a) (forks b)))
-forked_from (pair Parallel a b) x next =
-    forked_parallel x next (forks a) (forks b) _ (events_from a next (next + 1)) (events_from b x (next + 1 + forks a))
-    (forked_from a next (next + 1)) (forked_from b x (next + 1 + forks a))
-
 -- "Tasks are numbered 1, 2, 3 in fork order."
 pub fork_order : (p : Plan) → forked (events_of p) ≡ count_up 1 (forks p)
 fork_order p = forked_from p 0 1
+  where
+    forked_from : (p : Plan) (x next : ℕ) → forked (events_from p x next) ≡ count_up next (forks p)
+    forked_from (leaf Read l) x next = refl
+    forked_from (leaf Write l) x next = refl
+    forked_from (leaf Sum l) x next = refl
+    forked_from (pair Series a b) x next =
+        rw (forked_append (events_from a x next) (events_from b x (next + forks a)), forked_from a x next, forked_from b x (next + forks a))
+        (sym (count_up_add next (forks a) (forks b)))
+    forked_from (pair Parallel a b) x next =
+        forked_parallel x next (forks a) (forks b) _ (events_from a next (next + 1)) (events_from b x (next + 1 + forks a))
+        (forked_from a next (next + 1)) (forked_from b x (next + 1 + forks a))

@@ -6,6 +6,8 @@ pub mod Accepts
 pub mod Refuses
 pub mod EventOrder
 pub mod Stretches
+pub mod Standing
 pub mod Running
 pub mod Tracing
+pub mod Fitting
 pub mod Deciding

@@ -3,11 +3,10 @@
 use Prim.Native.Nat.{ℕ, suc, ◌+◌, ◌<◌, ◌≤◌}
 use mathlib.Core.Path.{◌≡◌, refl, sym, ap, subst, ◌∙◌}
 use mathlib.Core.Bool.{true}
-use mathlib.Core.List.{List, [], ◌∷◌, ◌++◌}
+use mathlib.Core.List.{List, ◌∷◌}
 use mathlib.Core.Logic.{◌⊎◌, inl, inr, ◌≢◌, ◌↔◌}
 use native.Mathlib.Omega.{arith}
-use lib.ListN.{length}
-use Rattle.trace.specs.Trace.{Trace, Event, FORK, JOIN, HALT, is_access, LOCATIONS, TASKS}
+use Rattle.trace.specs.Trace.{Trace, FORK, JOIN, HALT, is_access, LOCATIONS, TASKS}
 use Rattle.trace.specs.Line.{resumed, halt_operand}
 use Rattle.trace.specs.Graph.{Reach}
 use Rattle.trace.proofs.Tests.{either}
@@ -23,7 +22,7 @@ use Rattle.plan.specs.Decided.{IsLeaf}
 use Rattle.plan.specs.declared.Access.{Access}
 use Rattle.plan.specs.declared.Access.TheVariants.{Read, Write, Sum}
 use Rattle.plan.specs.declared.Operator.TheVariants.{Series, Parallel}
-use Rattle.plan.proofs.EventOrder.{events_length}
+use Rattle.plan.proofs.Standing.{Is, Stand, Parallels, stand_series, stand_parallel}
 use Rattle.plan.proofs.Stretches.{Stretch, stretch_from, from_tip, stretch_series, stretch_parallel, stretch_event, reach_joined}
 
 -- ---- positions
@@ -46,68 +45,17 @@ not_series : Parallel ≡ Series → ⊥
 not_series e = let z : ◌≡◌ {A = ℕ} 0 1 = cc in omega arith
 
 module _ (tr : Trace) where
-  -- ---- events that stand in a trace
-
-  pub record Is (p : ℕ) (e : Event) : Type 0 where
-    pub kind_is : tr.kind p ≡ e.kind
-    pub task_is : tr.task p ≡ e.task
-    pub operand_is : tr.operand p ≡ e.operand
-
-  -- From position n on stand these events.
-  abbrev pub Stand : ℕ → List Event → Type 0
-  Stand n [] = Unit {0}
-  Stand n (e ∷ es) = Is n e × Stand (n + 1) es
-
-  stand_at : {m n : ℕ} (es : List Event) → m ≡ n → Stand m es → Stand n es
-  stand_at es e s = subst (λ (z : ℕ). Stand z es) e s
-
-  stand_append : (n : ℕ) (es fs : List Event) → Stand n (es ++ fs) → Stand n es × Stand (n + length es) fs
-  stand_append n [] fs s = (tt, stand_at fs (omega arith) s)
-  stand_append n (e ∷ es) fs s = let i = stand_append (n + 1) es fs s.1 in ((s.0, i.0), stand_at fs (omega arith) i.1)
-
-  -- The events of S,
-  stand_series : (a b : Plan) (x next n : ℕ) → Stand n (events_from (pair Series a b) x next) →
-      Stand n (events_from a x next) × Stand (n + events a) (events_from b x (next + forks a))
-  stand_series a b x next n s =
-      let i = stand_append n (events_from a x next) (events_from b x (next + forks a)) s in
-      let l = events_length a x next in
-      (i.0, stand_at (events_from b x (next + forks a)) (omega arith) i.1)
-
-  -- and of P.
-  record Parallels (a b : Plan) (x next n : ℕ) : Type 0 where
-    forking : Is n (event FORK x next)
-    one : Stand (n + 1) (events_from a next (next + 1))
-    halting : Is (n + 1 + events a) (event HALT next x)
-    two : Stand (n + 2 + events a) (events_from b x (next + 1 + forks a))
-    joining : Is (n + 2 + events a + events b) (event JOIN x next)
-
-  stand_parallel : (a b : Plan) (x next n : ℕ) → Stand n (events_from (pair Parallel a b) x next) → Parallels a b x next n
-  stand_parallel a b x next n s =
-      let es = events_from a next (next + 1) in
-      let fs = events_from b x (next + 1 + forks a) in
-      let l = events_length a next (next + 1) in
-      let m = events_length b x (next + 1 + forks a) in
-      let i = stand_append (n + 1) es (event HALT next x ∷ (fs ++ (event JOIN x next ∷ []))) s.1 in
-      let j = stand_append (n + 1 + length es + 1) fs (event JOIN x next ∷ []) i.1.1 in
-      record {
-        forking = s.0;
-        one = i.0;
-        halting = rw l at i.1.0;
-        two = stand_at fs (omega arith) j.0;
-        joining = (stand_at {n = n + 2 + events a + events b} (event JOIN x next ∷ []) (omega arith) j.1).0;
-      }
-
   -- Each leaf's event stands at its position.
-  pub leaf_stands : (p : Plan) (x next n : ℕ) → Stand n (events_from p x next) → (y : Leaf p) → IsLeaf tr p y (position p y n)
+  pub leaf_stands : (p : Plan) (x next n : ℕ) → Stand tr n (events_from p x next) → (y : Leaf p) → IsLeaf tr p y (position p y n)
   leaf_stands (leaf k l) x next n s here = record { kind = s.0.kind_is; location = s.0.operand_is }
   leaf_stands (pair Series a b) x next n s (of_left y) =
-      let i = leaf_stands a x next n (stand_series a b x next n s).0 y in record { kind = i.kind; location = i.location }
+      let i = leaf_stands a x next n (stand_series tr a b x next n s).0 y in record { kind = i.kind; location = i.location }
   leaf_stands (pair Series a b) x next n s (of_right y) =
-      let i = leaf_stands b x (next + forks a) (n + events a) (stand_series a b x next n s).1 y in record { kind = i.kind; location = i.location }
+      let i = leaf_stands b x (next + forks a) (n + events a) (stand_series tr a b x next n s).1 y in record { kind = i.kind; location = i.location }
   leaf_stands (pair Parallel a b) x next n s (of_left y) =
-      let i = leaf_stands a next (next + 1) (n + 1) (stand_parallel a b x next n s).one y in record { kind = i.kind; location = i.location }
+      let i = leaf_stands a next (next + 1) (n + 1) (stand_parallel tr a b x next n s).one y in record { kind = i.kind; location = i.location }
   leaf_stands (pair Parallel a b) x next n s (of_right y) =
-      let i = leaf_stands b x (next + 1 + forks a) (n + 2 + events a) (stand_parallel a b x next n s).two y in
+      let i = leaf_stands b x (next + 1 + forks a) (n + 2 + events a) (stand_parallel tr a b x next n s).two y in
       record { kind = i.kind; location = i.location }
 
   -- ---- one event of a run, told by its task
@@ -122,17 +70,17 @@ module _ (tr : Trace) where
       RunOf n left (x ∷ paused) used last → RunOf (suc n) left (x ∷ paused) used (updated last x (suc n))
   access_as t k o run = rw t at (access (rw (← t) at run) k o)
 
-  fork_as : {n x c : ℕ} {left paused used : List ℕ} {last : ℕ → ℕ} → Is n (event FORK x c) → c < TASKS → (In c used → ⊥) →
+  fork_as : {n x c : ℕ} {left paused used : List ℕ} {last : ℕ → ℕ} → Is tr n (event FORK x c) → c < TASKS → (In c used → ⊥) →
       RunOf n left (x ∷ paused) used last → RunOf (suc n) left (c ∷ (x ∷ paused)) (c ∷ used) (updated (updated last x (suc n)) c (suc n))
   fork_as i small new run =
       rw (i.task_is, i.operand_is) at (fork (rw (← i.task_is) at run) i.kind_is (rw i.operand_is small) (rw i.operand_is new))
 
-  halt_as : {n x y : ℕ} {left paused used : List ℕ} {last : ℕ → ℕ} → Is n (event HALT x y) →
+  halt_as : {n x y : ℕ} {left paused used : List ℕ} {last : ℕ → ℕ} → Is tr n (event HALT x y) →
       RunOf n left (x ∷ (y ∷ paused)) used last → RunOf (suc n) (x ∷ left) (y ∷ paused) used (updated last x (suc n))
   unfolding halt_operand resumed
   halt_as i run = rw i.task_is at (halt (rw (← i.task_is) at run) i.kind_is i.operand_is)
 
-  join_as : {n x v : ℕ} {left paused used : List ℕ} {last : ℕ → ℕ} → Is n (event JOIN x v) →
+  join_as : {n x v : ℕ} {left paused used : List ℕ} {last : ℕ → ℕ} → Is tr n (event JOIN x v) →
       RunOf n (v ∷ left) (x ∷ paused) used last → RunOf (suc n) left (x ∷ paused) used (updated last x (suc n))
   join_as i run = rw i.task_is at (join (rw (← i.task_is, ← i.operand_is) at run) i.kind_is)
 
@@ -159,7 +107,7 @@ module _ (tr : Trace) where
 
   -- ---- a leaf
 
-  module _ (k : Access) (l x next n : ℕ) {left paused used : List ℕ} {last : ℕ → ℕ} (is : Is n (event (kind_of k) x l)) (small : l < LOCATIONS)
+  module _ (k : Access) (l x next n : ℕ) {left paused used : List ℕ} {last : ℕ → ℕ} (is : Is tr n (event (kind_of k) x l)) (small : l < LOCATIONS)
       (run : RunOf n left (x ∷ paused) used last) (fresh : Fresh next used) where
     leaf_access : is_access (tr.kind n) ≡ true
     leaf_access = rw is.kind_is (kind_access k)
@@ -235,7 +183,7 @@ module _ (tr : Trace) where
   -- ---- P: the child, then its halt, the parent, and the join
 
   module _ (a b : Plan) (x next n : ℕ) {left paused used : List ℕ} {last : ℕ → ℕ} (run : RunOf n left (x ∷ paused) used last)
-      (fresh : Fresh next used) (parts : Parallels a b x next n) where
+      (fresh : Fresh next used) (parts : Parallels tr a b x next n) where
     x_used : In x used
     x_used = (used_numbers halt_operand tr run).of_active x (inl refl)
 
@@ -370,15 +318,15 @@ module _ (tr : Trace) where
             }
 
   -- THE RUN OF A PLAN'S EVENTS, where its tasks have numbers left.
-  pub ran : (p : Plan) (x next n : ℕ) {left paused used : List ℕ} {last : ℕ → ℕ} → InRange p → next + forks p ≤ TASKS → Stand n (events_from p x next) →
+  pub ran : (p : Plan) (x next n : ℕ) {left paused used : List ℕ} {last : ℕ → ℕ} → InRange p → next + forks p ≤ TASKS → Stand tr n (events_from p x next) →
       RunOf n left (x ∷ paused) used last → Fresh next used → Ran p x next n left paused used last
   ran (leaf k l) x next n in_range numbers s run fresh = leaf_ran k l x next n s.0 in_range run fresh
   ran (pair Series a b) x next n in_range numbers s run fresh =
-      let parts = stand_series a b x next n s in
+      let parts = stand_series tr a b x next n s in
       let one = ran a x next n in_range.0 (omega arith) parts.0 run fresh in
       series_ran a b x next n one (ran b x (next + forks a) (n + events a) in_range.1 (omega arith) parts.1 one.run one.fresh)
   ran (pair Parallel a b) x next n in_range numbers s run fresh =
-      let parts = stand_parallel a b x next n s in
+      let parts = stand_parallel tr a b x next n s in
       let one = ran a next (next + 1) (n + 1) in_range.0 (omega arith) parts.one
       (forked a b x next n run fresh parts (omega arith)) (forked_fresh a b x next n run fresh parts) in
       parallel_ran a b x next n run fresh parts one

@@ -1,8 +1,8 @@
 -- Stretches of a trace that are entered by one tip and left by one: an earlier event reaches all events of a stretch or none. The events of a plan are one, and so
 -- those of S(G1,G2) are two in a row (`stretch_series`), and those of P(G1,G2) two beside each other (`stretch_parallel`). Assumes nothing.
 use Prim.Native.Nat.{ℕ, suc, ◌+◌, ◌<◌, ◌≤◌}
-use mathlib.Core.Path.{◌≡◌, refl, subst, ◌∙◌}
-use mathlib.Core.List.{List, ◌∷◌}
+use mathlib.Core.Path.{◌≡◌, refl, subst}
+use mathlib.Core.List.{List}
 use mathlib.Core.Logic.{◌⊎◌, inl, inr, ◌≢◌, ◌↔◌}
 use native.Mathlib.Omega.{arith}
 use Rattle.trace.specs.Trace.{Trace, JOIN}

@@ -1,6 +1,6 @@
 -- THE TRACE OF A PLAN (`plan_traces`): its events keep the line rules, have each leaf at its position, and of two leaves the first reaches the second exactly if the
 -- operator where they meet is S and the first is in its left operand. And so does the trace that the slices hold (`traces_plan`). Assumes nothing.
-use Prim.Native.Nat.{ℕ, suc, ◌+◌, ◌<◌, ◌≤◌}
+use Prim.Native.Nat.{ℕ, suc, ◌+◌, ◌≤◌}
 use mathlib.Core.Path.{◌≡◌, ap, subst, ◌∙◌}
 use mathlib.Core.List.{List, [], ◌∷◌, ◌++◌, map}
 use native.Mathlib.Omega.{arith}
@@ -20,7 +20,8 @@ use Rattle.plan.specs.Events.{forks, events_of}
 use Rattle.plan.specs.Leaves.{events}
 use Rattle.plan.specs.Decided.{Fits, Decided, accepted, DecidedBy, trace_in, Traces, TracesPlan}
 use Rattle.plan.proofs.EventOrder.{events_length}
-use Rattle.plan.proofs.Running.{Stand, Ran, ran, leaf_stands}
+use Rattle.plan.proofs.Standing.{Stand}
+use Rattle.plan.proofs.Running.{Ran, ran, leaf_stands}
 
 -- ---- a trace in which the events stand
 

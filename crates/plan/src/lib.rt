@@ -1,23 +1,25 @@
 // Plans in series and parallel: their letters. The definitions in `specs/` say what a text decides and what its trace is like; `plan_reader` finds it.
+#![tactic(auto)]
+
 ghost use Rattle.std.specs.Prelude.{◌≡◌};
 ghost use Rattle.plan.specs.Reading.{letter_of};
 
 // "Leaves are r, w or s (sum)".
-#[derive(Drop)]
+#[derive(Clone, Copy)]
 pub enum Access {
     Read,
     Write,
     Sum,
 }
 
-#[derive(Drop)]
+#[derive(Clone, Copy)]
 pub enum Operator {
     Series,
     Parallel,
 }
 
 // What a byte begins: a leaf, an operator with its operands, or no plan.
-#[derive(Drop)]
+#[derive(Clone, Copy)]
 pub enum Letter {
     Leaf(Access),
     Joint(Operator),

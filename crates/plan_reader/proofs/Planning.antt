@@ -11,7 +11,6 @@ use Rattle.trace.specs.Trace.{TASKS, MAX_EVENTS}
 use Rattle.trace.specs.Slices.{Slices, store_all, Translated, leaving}
 use Rattle.trace.specs.Answers.{translation_reply, translated_of}
 use Rattle.trace.specs.declared.Refusal.{Refusal}
-use Rattle.trace.specs.declared.Translation.{Translation}
 use Rattle.trace.specs.declared.Translation.TheVariants as translation
 use Rattle.plan.specs.Plans.{Plan, LEVELS, IsPlan}
 use Rattle.plan.specs.Events.{forks, events_of}
@@ -26,7 +25,8 @@ use Rattle.plan_reader.specs.declared.reading.Measurement.TheVariants as measure
 use Rattle.plan.proofs.Accepts.{accepts_exactly}
 use Rattle.plan.proofs.EventOrder.{events_length}
 use Rattle.plan.proofs.Tracing.{traces_plan}
-use Rattle.plan.proofs.Deciding.{fits, planned_decided}
+use Rattle.plan.proofs.Fitting.{fits}
+use Rattle.plan.proofs.Deciding.{planned_decided}
 
 never : {C : Type 0} → ◌≡◌ {A = ℕ} 0 1 → C
 never z = absurd (omega arith)

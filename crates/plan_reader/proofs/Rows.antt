@@ -202,6 +202,15 @@ module _ (left right : Scanned) (comma e f close e₂ f₂ : ℕ) (whole : left 
   pub all_forks_fit : Fits w64 (1 + (f + f₂))
   all_forks_fit = let h = few in omega arith
 
+-- What a pair's numbers are made of.
+pair_series : (o : Operator) (a b : Plan) (end : ℕ) (rest : List ℕ) → o ≡ Series
+    → measured (read (pair o a b) end rest) ≡ counted end (events a + events b) (forks a + forks b) rest
+pair_series o a b end rest n = rw n
+
+pair_parallel : (o : Operator) (a b : Plan) (end : ℕ) (rest : List ℕ) → o ≡ Parallel
+    → measured (read (pair o a b) end rest) ≡ counted end (3 + (events a + events b)) (1 + (forks a + forks b)) rest
+pair_parallel o a b end rest n = rw n
+
 -- ---- `scan`
 
 module _ (text : List ℕ) (at room : ℕ) (r : Opening) (opened : opened_of text at r ≡ opening room at (drop at text)) where
@@ -266,11 +275,19 @@ module _ (text : List ℕ) (at room : ℕ) (r : Opening) (opened : opened_of tex
                   rw (inside_plan, first_plan.is, comma_there, second_plan.is, m)
 
               pub scan_series : o ≡ Series → counted (close + 1) (e + e₂) (f + f₂) (drop (close + 1) text) ≡ measured (plan_at room at (drop at text))
-              scan_series n = let i = first_plan in let j = second_plan in rw (pair_read, n) (cc)
+              scan_series n =
+                  let i = first_plan in
+                  let j = second_plan in
+                  let k = pair_series o i.plan j.plan (close + 1) (drop (close + 1) text) n in
+                  rw pair_read (cc)
 
               pub scan_parallel : o ≡ Parallel
                   → counted (close + 1) (3 + (e + e₂)) (1 + (f + f₂)) (drop (close + 1) text) ≡ measured (plan_at room at (drop at text))
-              scan_parallel n = let i = first_plan in let j = second_plan in rw (pair_read, n) (cc)
+              scan_parallel n =
+                  let i = first_plan in
+                  let j = second_plan in
+                  let k = pair_parallel o i.plan j.plan (close + 1) (drop (close + 1) text) n in
+                  rw pair_read (cc)
 
 -- ---- `measure`
 

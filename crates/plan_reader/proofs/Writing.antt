@@ -1,7 +1,7 @@
 -- OF A PLAN'S TEXT THE MACHINE WRITES THE PLAN'S EVENTS (`plan_runs`, `whole_runs`). Assumes nothing.
-use Prim.Native.Nat.{ℕ, suc, ◌+◌, ◌≤◌, ◌<◌}
+use Prim.Native.Nat.{ℕ, zero, suc, ◌+◌, ◌≤◌, ◌<◌}
 use native.Mathlib.Omega.{arith}
-use mathlib.Core.Path.{◌≡◌, refl, ◌∙◌}
+use mathlib.Core.Path.{◌≡◌, refl}
 use mathlib.Core.List.{List, [], ◌∷◌, ◌++◌, append-nil, append_assoc}
 use lib.ListN.{length}
 use Rattle.trace.specs.Trace.{Event, TASKS, FORK, JOIN, HALT}
@@ -10,7 +10,6 @@ use Rattle.numbers.proofs.Decimal.{first, number_whole}
 use Rattle.plan.specs.Plans.{Plan, leaf, pair, print, access_letter, operator_letter, InRange, depth, LEVELS}
 use Rattle.plan.specs.Events.{event, kind_of, forks, events_from, events_of}
 use Rattle.plan.specs.Reading.{LAST_LOCATION, letter_of}
-use Rattle.plan.specs.declared.Operator.{Operator}
 use Rattle.plan.specs.declared.Operator.TheVariants.{Series, Parallel}
 use Rattle.plan.specs.declared.Letter.TheVariants.{Other}
 use Rattle.plan.proofs.Spelling.{letter_access, letter_operator}
@@ -50,6 +49,7 @@ plan_runs (pair Series a b) rest x next fs es h e positive low few r =
     let opening : step_of (operator_letter Series ∷ (40 ∷ (print a ++ (44 ∷ bytes)))) (state x next fs)
     ≡ goes [] (print a ++ (44 ∷ bytes)) (state x next (f ∷ fs)) = rw (letter_operator Series) in
     rw (← joined (print a) (print b) rest, append_assoc (events_from a x next) (events_from b x (next + forks a)) es) (steps opening (omega arith) (omega arith) j)
+plan_runs (pair Parallel a b) rest x zero fs es h e positive low few r = absurd (omega arith)
 plan_runs (pair Parallel a b) rest x (suc c) fs es h e positive low few r =
     let next = suc c in
     let after = next + 1 + forks a in

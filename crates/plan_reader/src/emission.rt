@@ -17,7 +17,7 @@ use trace::{FORK, HALT, JOIN, READ, SUM, WRITE};
 const STACK_CELLS: usize = 128;
 
 // How far the writing has come: the next byte, the number of events, how many operators are open, the number of the next task, and the task that runs.
-#[derive(Drop)]
+#[derive(Clone, Copy)]
 pub struct Writer {
     pub at: usize,
     pub count: usize,

@@ -1,4 +1,6 @@
 // Plans in series and parallel: from a plan's text to the trace that the judge takes. The text is checked and measured before anything is written.
+#![tactic(auto)]
+
 mod emission;
 mod reading;
 

@@ -14,7 +14,7 @@ const LEVELS: usize = 64;
 pub const LAST_LOCATION: u16 = LOCATIONS - 1;
 
 // What a plan begins with: a leaf with the place after it, or an operator with the bracket after it.
-#[derive(Drop)]
+#[derive(Clone, Copy)]
 pub enum Opening {
     Stop(Refusal),
     Leaf(Access, u16, usize),
@@ -22,14 +22,14 @@ pub enum Opening {
 }
 
 // A plan's end, its events and its forks.
-#[derive(Drop)]
+#[derive(Clone, Copy)]
 pub enum Scanned {
     Whole(usize, usize, usize),
     Stopped(Refusal),
 }
 
 // What a whole text comes to: the numbers of its plan's events and forks, or why it is turned back.
-#[derive(Drop)]
+#[derive(Clone, Copy)]
 pub enum Measurement {
     Plan(usize, usize),
     Refused(Refusal),

@@ -1,22 +1,27 @@
 // The text program: a trace text on standard input, its answer on standard output. What it takes in is crate `input`'s matter, and the answer crate `answer`'s;
 // `main` reads, calls and writes.
+#![tactic(auto)]
+
 ghost use Rattle.std.specs.Prelude.{◌≡◌, take};
 ghost use Rattle.answer.specs.Answer.{Counts};
 ghost use Rattle.racejudge.specs.Program.{Responds, Runs, TakenLinks, trouble_of};
 
 use answer::{OUTPUT_BYTES, TEXT_BYTES};
 use input::Input;
-use libc::{STDERR_FILENO, STDOUT_FILENO};
+use std::env::FillError;
+use std::io;
+use std::io::Read;
+use std::rt::Env;
 
 // What was taken in, and how many bytes of output there are.
-#[derive(Drop)]
+#[derive(Clone, Copy)]
 struct Ran {
     taken: Input,
     used: usize,
 }
 
 // What is told on standard error: that arguments were given, that a read failed, or that a write did.
-#[derive(Drop)]
+#[derive(Clone, Copy)]
 enum Trouble {
     Nothing,
     HasArguments,
@@ -38,12 +43,17 @@ fn respond(taken: Input, text: &[u8; TEXT_BYTES], out: &mut [u8]) -> usize
 }
 
 // ONE RUN but for its writes: the output stands at the start of `out`.
-fn run(words: usize, text: &mut [u8; TEXT_BYTES], out: &mut [u8; OUTPUT_BYTES]) -> Ran
+fn run<R: Read>(
+    reader: &mut R,
+    words: usize,
+    text: &mut [u8; TEXT_BYTES],
+    out: &mut [u8; OUTPUT_BYTES],
+) -> Ran
     ensures run { Runs words text.old text.new result.taken (take result.used out.new) }
     ensures within { Counts result.used out.new }
     ensures chains { TakenLinks result.taken text.new }
 {
-    let taken = input::receive(words, text);
+    let taken = input::receive(reader, words, text);
     let used = respond(taken, text, out);
     Ran { taken, used }
 }
@@ -65,30 +75,33 @@ fn trouble_of(taken: Input, written: bool) -> Trouble
     }
 }
 
-fn tell(trouble: Trouble) {
+fn tell(rt: &impl Eprint, trouble: Trouble) -> io::Result<()> {
     match trouble {
-        Trouble::Nothing => {}
-        Trouble::HasArguments => {
-            io::write_all(
-                STDERR_FILENO,
-                b"racejudge: takes no arguments; give it the trace text on standard input: racejudge < TEXT\n",
-            );
-        }
-        Trouble::CannotRead => {
-            io::write_all(STDERR_FILENO, b"racejudge: cannot read standard input\n");
-        }
-        Trouble::CannotWrite => {
-            io::write_all(STDERR_FILENO, b"racejudge: cannot write standard output\n");
-        }
+        Trouble::Nothing => Ok(()),
+        Trouble::HasArguments => eprintln!(rt;
+            "racejudge: takes no arguments; give it the trace text on standard input: racejudge < TEXT"
+        ),
+        Trouble::CannotRead => eprintln!(rt; "racejudge: cannot read standard input"),
+        Trouble::CannotWrite => eprintln!(rt; "racejudge: cannot write standard output"),
     }
 }
 
-fn main() {
+// With how many words the program was started, its own name among them.
+fn count_words(rt: &impl Env) -> usize {
+    for words in 0..usize::MAX {
+        if let Err(FillError::NotPresent) = rt.arg(words, &mut []) {
+            return words;
+        }
+    }
+    usize::MAX
+}
+
+fn main(rt: HostRuntime) {
     let mut text = [0u8; TEXT_BYTES];
     let mut out = [0u8; OUTPUT_BYTES];
-    let ran = run(os::arg_count(), &mut text, &mut out);
+    let ran = run(&mut rt.stdin(), count_words(&rt), &mut text, &mut out);
     let used = ran.used;
-    let written = io::write_all(STDOUT_FILENO, &out[..used]);
+    let written = rt.write_all(&out[..used]).is_ok();
     let taken = ran.taken;
-    tell(trouble_of(taken, written));
+    let _ = tell(&rt, trouble_of(taken, written));
 }

@@ -1,6 +1,6 @@
 -- A move in the cells is a move of the segments: the next one is put after its source, and the stacks go on. Assumes nothing.
 use Prim.Native.Nat.{ℕ, suc, ◌+◌, ◌-◌, ◌<◌, ◌≤◌}
-use mathlib.Core.Path.{◌≡◌, sym, ap, ◌∙◌}
+use mathlib.Core.Path.{◌≡◌, sym, ap, subst, ◌∙◌}
 use mathlib.Core.Bool.{cond}
 use mathlib.Core.List.{List, [], ◌∷◌, tail}
 use mathlib.Core.Logic.{◌≢◌}
@@ -95,10 +95,12 @@ module _ (c : List ℕ) (line : Line) (kind g : ℕ) (forks halts : List ℕ) (r
   pub open_fork : kind ≡ FORK → Opened c line kind g g (g ∷ forks) halts
   unfolding source_in pushed_in
   open_fork k =
+      let e : pushed_in c line kind g ≡ set c (FORKS + line.active - 1) g = rw k in
       record {
         source_is = rw k;
-        of_forks = kept FORKS (g ∷ forks) (omega arith) (rw k (stack_pushed c FORKS (FORKS + line.active - 1) g forks (omega arith) (omega arith) of_forks));
-        of_halts = kept HALTS halts (omega arith) (rw k (stack_frame c _ HALTS halts
+        of_forks = kept FORKS (g ∷ forks) (omega arith) (subst (λ (x : List ℕ). StackAt x FORKS (g ∷ forks)) (sym e)
+            (stack_pushed c FORKS (FORKS + line.active - 1) g forks (omega arith) (omega arith) of_forks));
+        of_halts = kept HALTS halts (omega arith) (subst (λ (x : List ℕ). StackAt x HALTS halts) (sym e) (stack_frame c (set c (FORKS + line.active - 1) g) HALTS halts
             (λ i h. get_or-set_other c (FORKS + line.active - 1) (HALTS + i) g 0 (λ q. omega arith)) of_halts));
       }
 
@@ -121,9 +123,11 @@ module _ (c : List ℕ) (line : Line) (kind g : ℕ) (forks halts : List ℕ) (r
   pub open_halt : kind ≡ HALT → Opened c line kind g (top g forks) (tail forks) (g ∷ halts)
   unfolding source_in pushed_in
   open_halt k =
+      let e : pushed_in c line kind g ≡ set c (HALTS + line.left) g = rw k in
       record {
         source_is = rw k (halt_source forks of_forks active);
-        of_forks = stack_tail (opened_in c line kind g) FORKS forks (kept FORKS forks (omega arith) (rw k (stack_frame c _ FORKS forks
+        of_forks = stack_tail (opened_in c line kind g) FORKS forks (kept FORKS forks (omega arith) (subst (λ (x : List ℕ). StackAt x FORKS forks) (sym e) (stack_frame c (set c (HALTS + line.left) g) FORKS forks
             (λ i h. get_or-set_other c (HALTS + line.left) (FORKS + i) g 0 (λ q. omega arith)) of_forks)));
-        of_halts = kept HALTS (g ∷ halts) (omega arith) (rw k (stack_pushed c HALTS (HALTS + line.left) g halts (omega arith) (omega arith) of_halts));
+        of_halts = kept HALTS (g ∷ halts) (omega arith) (subst (λ (x : List ℕ). StackAt x HALTS (g ∷ halts)) (sym e)
+            (stack_pushed c HALTS (HALTS + line.left) g halts (omega arith) (omega arith) of_halts));
       }

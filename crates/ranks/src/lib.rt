@@ -1,5 +1,7 @@
 // The line rules over a whole trace, and for each event that keeps them a number: of two events the earlier reaches the later exactly if its number is no
 // larger. The numbers are the places of the segments in their second order (crate `segments`), which is kept as a linked list while the rules run.
+#![tactic(auto)]
+
 ghost use Rattle.std.specs.Prelude.{◌≡◌, true, cond, ◌+◌, ◌≤◌, ◌<◌, suc, length, get_or};
 ghost use Rattle.trace.specs.Trace.{is_kind, is_access, WORKSPACE_CELLS};
 ghost use Rattle.trace.specs.Lent.{lent_trace};
@@ -29,14 +31,14 @@ const NEXT: usize = 9216;
 const SEGMENTS: u16 = 3072;
 
 // How many events the graph has, and the row that the next one meets, 0 where there is none.
-#[derive(Drop)]
+#[derive(Clone, Copy)]
 pub struct Kept {
     pub events: usize,
     pub row: usize,
 }
 
 // The same; how many of these events, at the start, are accesses before any move, so that their number is 0; and how many stops the trace has.
-#[derive(Drop)]
+#[derive(Clone, Copy)]
 pub struct Ranked {
     pub events: usize,
     pub row: usize,

@@ -1,7 +1,7 @@
 -- WHAT `report` FINDS AND WRITES, in the documents' terms. Where the numbers tell the paths of a trace with these kinds and operands, and t is the first access
 -- that races with an earlier one, s is the earliest it races with, and the two orders are those of document 01. Assumes nothing.
 use Prim.Native.Nat.{ℕ, suc, ◌<◌, ◌≤◌}
-use mathlib.Core.Path.{◌≡◌, ap, ◌∙◌}
+use mathlib.Core.Path.{◌≡◌, subst, ap, ◌∙◌}
 use mathlib.Core.List.{List, ◌++◌}
 use native.Mathlib.Omega.{arith}
 use lib.ListN.{get_or, drop}
@@ -17,7 +17,7 @@ use Rattle.trace.proofs.Lines.{passes_earlier, graph_le, graph_kept}
 use Rattle.trace.proofs.Numbers.{Numbers, race_by_number, in_d_by_number}
 use Rattle.trace.proofs.Demand3.{test_in_D}
 use Rattle.cells.specs.Cells.{number_in}
-use Rattle.report.specs.Reports.{reach_in, kinds_conflict, partner_in, Partnered, FirstPartner, inDIn, order_in, ReportedIn, Reported}
+use Rattle.report.specs.Reports.{reach_in, kinds_conflict, partner_in, Partnered, FirstPartner, in_d_in, order_in, ReportedIn, Reported}
 use Rattle.report.proofs.ReportingStores.{schedule_same}
 
 -- The test of the numbers.
@@ -70,8 +70,8 @@ module _ (kinds tasks operands c : List ℕ) (m t : ℕ) where
       pair = (test_partner s first.earlier).0 first.passed
 
       -- The test by numbers is that of D.
-      test_D : (p : ℕ) → p < m → Tests (inDIn c s t p) (InD tr m s t p)
-      unfolding inDIn
+      test_D : (p : ℕ) → p < m → Tests (in_d_in c s t p) (InD tr m s t p)
+      unfolding in_d_in
       test_D p h =
           let by_number = in_d_by_number tr m (number_in c) numbers s t p first.earlier pair h in
           tests_map (λ w. by_number.1 w) (λ d. by_number.0 d)
@@ -82,13 +82,13 @@ module _ (kinds tasks operands c : List ℕ) (m t : ℕ) where
       same_order : (x y : ℕ) (buffer : List ℕ) → order_in c s t x y buffer ≡ schedule (in_d? tr m s t) s t x y ++ drop (suc t) buffer
       same_order x y buffer =
           ap (λ (o : List ℕ). o ++ drop (suc t) buffer)
-          (schedule_same (inDIn c s t) (in_d? tr m s t) s t x y
+          (schedule_same (in_d_in c s t) (in_d? tr m s t) s t x y
           (λ p h. tests_unique _ _ (test_D p (omega arith)) (test_in_D tr m numbers.forward s t p)))
 
     -- What `report` leaves, of n events of which the graph has m.
     pub reported : {b₁ a₁ b₂ a₂ : List ℕ} {s : ℕ} (n : ℕ) → m ≡ graph_events halt_operand tr n → NoRaceBefore tr m t
         → ReportedIn kinds operands c b₁ a₁ b₂ a₂ s t → Reported tr n b₁ a₁ b₂ a₂ s t
-    reported {b₁} {b₂ = b₂} {s = s} n whole none r =
+    reported {b₁} {a₁} {b₂} {a₂} {s} n whole none r =
         let first = r.partner in
         let before = first.earlier in
         let few = graph_le halt_operand tr n in
@@ -104,6 +104,6 @@ module _ (kinds tasks operands c : List ℕ) (m t : ℕ) where
                 first = rw (← whole) none;
                 earliest = rw (← whole) (λ p low. tests_fails _ (test_partner p (omega arith)) (first.none_before p low));
               };
-          first = r.first ∙ rw (← whole) (same_order first s t b₁);
-          second = r.second ∙ rw (← whole) (same_order first t s b₂);
+          first = subst (λ (g : ℕ). a₁ ≡ schedule (in_d? tr g s t) s t s t ++ drop (suc t) b₁) whole (r.first ∙ same_order first s t b₁);
+          second = subst (λ (g : ℕ). a₂ ≡ schedule (in_d? tr g s t) s t t s ++ drop (suc t) b₂) whole (r.second ∙ same_order first t s b₂);
         }

@@ -12,7 +12,7 @@ use borrow.Author.Tests.{eq-eqb, ne_eqb, lt-ltb, le-ltb}
 use Rattle.trace.specs.Orders.{chosen}
 use Rattle.trace.specs.Outcome.{other?, schedule}
 use Rattle.trace.proofs.WitnessOrders.{schedule_length}
-use Rattle.report.specs.Reports.{reach_in, not_reach_in, inDIn, of_d, others, order_in, Parted, Arranged}
+use Rattle.report.specs.Reports.{reach_in, not_reach_in, in_d_in, of_d, others, order_in, Parted, Arranged}
 use Rattle.trace.proofs.Lists.{sets_append, drop_sets, sets_front}
 use Rattle.report.proofs.ReportingStores.{parts_chosen}
 
@@ -26,22 +26,22 @@ set_pair (z ∷ xs) ys a b x y = ap (λ (l : List ℕ). z ∷ l) (set_pair xs ys
 module _ (c : List ℕ) (s t : ℕ) (before : s < t) where
   -- D, by the numbers.
   abbrev D : ℕ → Bool
-  D = inDIn c s t
+  D = in_d_in c s t
 
   D_below : (p : ℕ) → p < s → reach_in c s p ≡ D p
-  unfolding inDIn
+  unfolding in_d_in
   D_below p h = rw (lt-ltb p s h, le-ltb s p (omega arith), or-false)
 
   D_above : (p : ℕ) → s < p → p < t → reach_in c t p ≡ D p
-  unfolding inDIn
+  unfolding in_d_in
   D_above p h i = rw (le-ltb p s (omega arith), lt-ltb s p h, lt-ltb p t i)
 
   s_out : D s ≡ false
-  unfolding inDIn
+  unfolding in_d_in
   s_out = rw (le-ltb s s (omega arith))
 
   t_out : D t ≡ false
-  unfolding inDIn
+  unfolding in_d_in
   t_out = rw (le-ltb t s (omega arith), lt-ltb s t before, le-ltb t t (omega arith))
 
   other_is : (p : ℕ) → p ≢ s → p ≢ t → not (D p) ≡ other? D s t p

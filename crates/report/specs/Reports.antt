@@ -46,19 +46,19 @@ pub record FirstPartner (kinds operands c : List ℕ) (t s : ℕ) : Type 0 where
 -- ---- the orders
 
 -- By the numbers, event p is of D: it stands before s and reaches s, or it stands between s and t and reaches t.
-unfoldable pub inDIn : List ℕ → ℕ → ℕ → ℕ → Bool
-inDIn c s t p = (ltb p s && reach_in c s p) || (ltb s p && ltb p t && reach_in c t p)
+unfoldable pub in_d_in : List ℕ → ℕ → ℕ → ℕ → Bool
+in_d_in c s t p = (ltb p s && reach_in c s p) || (ltb s p && ltb p t && reach_in c t p)
 
 -- The events of D, and the others up to t but s and t.
 abbrev pub of_d : List ℕ → ℕ → ℕ → List ℕ
-of_d c s t = select (inDIn c s t) (positions (suc t))
+of_d c s t = select (in_d_in c s t) (positions (suc t))
 
 abbrev pub others : List ℕ → ℕ → ℕ → List ℕ
-others c s t = select (other? (inDIn c s t) s t) (positions (suc t))
+others c s t = select (other? (in_d_in c s t) s t) (positions (suc t))
 
 -- What an order buffer then holds: D, then x and y, which are s and t or t and s, then the others, and past t what it held.
 abbrev pub order_in : List ℕ → ℕ → ℕ → ℕ → ℕ → List ℕ → List ℕ
-order_in c s t x y buffer = schedule (inDIn c s t) s t x y ++ drop (suc t) buffer
+order_in c s t x y buffer = schedule (in_d_in c s t) s t x y ++ drop (suc t) buffer
 
 -- k events are parted: xs are written to `first` from cell `low` on and ys to `second` from cell `high` on, and r is past the former.
 pub record Parted (first second first' second' : List ℕ) (low high k : ℕ) (xs ys : List ℕ) (r : ℕ) : Type 0 where

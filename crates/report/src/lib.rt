@@ -1,5 +1,7 @@
 // What a race at t leaves: its partner s, and two orders of the events up to t that differ only in the places of s and t. The events' numbers tell all
 // paths: of two events the earlier reaches the later exactly if its number is no larger.
+#![tactic(auto)]
+
 ghost use Rattle.std.specs.Prelude.{◌≡◌, true, ◌+◌, ◌-◌, ◌≤◌, ◌<◌, length, get_or, take};
 ghost use Rattle.std.proofs.lemmas.List.Edits.{sets};
 ghost use Rattle.trace.specs.Trace.{is_access, MAX_EVENTS};

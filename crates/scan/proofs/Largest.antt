@@ -14,8 +14,9 @@ use Rattle.trace.proofs.EventKinds.{test_access}
 use Rattle.trace.proofs.Conflicts.{test_conflicting}
 use Rattle.cells.specs.Cells.{SameFrom}
 use Rattle.scan.specs.Numbered.{Against, RaceByNumber}
-use Rattle.scan.specs.Tables.{FOR_READS, FOR_SUMS, TABLES, Largest, Tables, first_held, second_held, held_against, Testable, Calm, raised}
+use Rattle.scan.specs.Tables.{FOR_READS, FOR_SUMS, TABLES, Largest, Tables, first_held, held_against, Testable, Calm, raised}
 use Rattle.scan.specs.Tables.{stored_in, kept_in, TestSays, raised_in, raced_in, RaceSays}
+use Rattle.scan.proofs.Kept.{kept_read, kept_write, kept_sum, kept_long, stored_apart, kept_other}
 
 -- ---- what an access is held against, kind by kind
 
@@ -34,35 +35,6 @@ held_sum c l = omega arith
 -- ---- the cells of an access that is kept, kind by kind
 
 module _ (c : List ℕ) (o x : ℕ) where
-  kept_read : kept_in c READ o x ≡ stored_in c FOR_SUMS FOR_SUMS o x
-  unfolding kept_in conflicting
-  kept_read = refl
-
-  kept_write : kept_in c WRITE o x ≡ stored_in c FOR_SUMS FOR_READS o x
-  unfolding kept_in conflicting
-  kept_write = refl
-
-  kept_sum : kept_in c SUM o x ≡ stored_in c FOR_READS FOR_READS o x
-  unfolding kept_in conflicting
-  kept_sum = refl
-
-  pub kept_long : (j : ℕ) → length (kept_in c j o x) ≡ length c
-  unfolding kept_in stored_in
-  kept_long j = simp length-set
-
-  stored_apart : (first second i : ℕ) → i ≢ first + o → i ≢ second + o → get_or (stored_in c first second o x) i 0 ≡ get_or c i 0
-  unfolding stored_in
-  stored_apart first second i d e =
-      get_or-set_other (set c (first + o) (raised c first o x)) (second + o) i (raised c first o x) 0 e
-      ∙ get_or-set_other c (first + o) i (raised c first o x) 0 d
-
-  -- Other cells than those of the location are left.
-  pub kept_other : (j : ℕ) → is_access j ≡ true → (i : ℕ) → i ≢ FOR_READS + o → i ≢ FOR_SUMS + o → get_or (kept_in c j o x) i 0 ≡ get_or c i 0
-  kept_other j access i d e =
-      either ((test_access j).0 access) (λ k. rw (k, kept_read) (stored_apart FOR_SUMS FOR_SUMS i e e))
-      (λ b.
-      either b (λ k. rw (k, kept_write) (stored_apart FOR_SUMS FOR_READS i e d)) (λ k. rw (k, kept_sum) (stored_apart FOR_READS FOR_READS i d d)))
-
   module _ (room : TABLES ≤ length c) (location : o < LOCATIONS) where
     stored_first : (first second : ℕ) → first ≤ FOR_SUMS → second ≤ FOR_SUMS → get_or (stored_in c first second o x) (first + o) 0 ≡ raised c first o x
     unfolding stored_in
@@ -82,22 +54,22 @@ module _ (c : List ℕ) (o x : ℕ) where
 
     -- A write or a sum that passed is kept in FOR-READS, and a read or a write that passed in FOR-SUMS.
     read_leaves : get_or (kept_in c READ o x) (FOR_READS + o) 0 ≡ get_or c (FOR_READS + o) 0
-    read_leaves = rw kept_read (stored_apart FOR_SUMS FOR_SUMS (FOR_READS + o) (omega arith) (omega arith))
+    read_leaves = rw (kept_read c o x) (stored_apart c o x FOR_SUMS FOR_SUMS (FOR_READS + o) (omega arith) (omega arith))
 
     write_kept : held_against c WRITE o ≤ x → get_or (kept_in c WRITE o x) (FOR_READS + o) 0 ≡ raised c FOR_READS o x
-    write_kept quiet = let held = held_write c o in rw kept_write (stored_second FOR_SUMS FOR_READS (omega arith) ∙ omega arith)
+    write_kept quiet = let held = held_write c o in rw (kept_write c o x) (stored_second FOR_SUMS FOR_READS (omega arith) ∙ omega arith)
 
     sum_kept : get_or (kept_in c SUM o x) (FOR_READS + o) 0 ≡ raised c FOR_READS o x
-    sum_kept = rw kept_sum (stored_second FOR_READS FOR_READS (omega arith))
+    sum_kept = rw (kept_sum c o x) (stored_second FOR_READS FOR_READS (omega arith))
 
     read_kept : get_or (kept_in c READ o x) (FOR_SUMS + o) 0 ≡ raised c FOR_SUMS o x
-    read_kept = rw kept_read (stored_second FOR_SUMS FOR_SUMS (omega arith))
+    read_kept = rw (kept_read c o x) (stored_second FOR_SUMS FOR_SUMS (omega arith))
 
     write_kept_too : get_or (kept_in c WRITE o x) (FOR_SUMS + o) 0 ≡ raised c FOR_SUMS o x
-    write_kept_too = rw kept_write (stored_first FOR_SUMS FOR_READS (omega arith) (omega arith))
+    write_kept_too = rw (kept_write c o x) (stored_first FOR_SUMS FOR_READS (omega arith) (omega arith))
 
     sum_leaves : get_or (kept_in c SUM o x) (FOR_SUMS + o) 0 ≡ get_or c (FOR_SUMS + o) 0
-    sum_leaves = rw kept_sum (stored_apart FOR_READS FOR_READS (FOR_SUMS + o) (omega arith) (omega arith))
+    sum_leaves = rw (kept_sum c o x) (stored_apart c o x FOR_READS FOR_READS (FOR_SUMS + o) (omega arith) (omega arith))
 
 -- ---- what the functions return and leave
 
@@ -114,22 +86,6 @@ module _ (r w : ℕ) (read : r ≡ first_held READ) (write : w ≡ first_held WR
       (either ((test_access k).0 access) (λ e. rw e (refl, omega arith)) (λ b. either b (λ e. rw e (refl, omega arith)) (λ e. absurd (other e))))
 
 module _ (c : List ℕ) (k l x : ℕ) where
-  pub held_back :
-      (first second a b r : ℕ) → first ≡ first_held k → second ≡ second_held k → a ≡ get_or c (first + l) 0 → b ≡ get_or c (second + l) 0 → r ≡ max a b → x < r
-      → TestSays c c k l x false
-  unfolding held_against
-  held_back first second a b r one two read read' larger low =
-      let held : r ≡ max (get_or c (first_held k + l) 0) (get_or c (second_held k + l) 0) = cc (one, two, read, read', larger) in
-      (omega arith, refl)
-
-  pub passed :
-      (first second a b r : ℕ) (d : List ℕ) → first ≡ first_held k → second ≡ second_held k → a ≡ get_or c (first + l) 0 → b ≡ get_or c (second + l) 0 → r ≡ max a b
-      → r ≤ x → d ≡ stored_in c (FOR_SUMS - second) (FOR_SUMS - first) l x → TestSays c d k l x true
-  unfolding held_against kept_in
-  passed first second a b r d one two read read' larger high stored =
-      let held : r ≡ max (get_or c (first_held k + l) 0) (get_or c (second_held k + l) 0) = cc (one, two, read, read', larger) in
-      (omega arith, cc (one, two, stored))
-
   -- A read or a write where no sum has been kept.
   module _ (ready : Testable c k l × (k ≢ SUM)) (table : ℕ) (is : table ≡ first_held k) where
     of_read : k ≡ READ → get_or c (table + l) 0 ≡ get_or c (FOR_READS + l) 0
@@ -158,20 +114,6 @@ module _ (c : List ℕ) (k l x : ℕ) where
         let asked = of_write e in
         rw e (omega (arith, held_write c l, calm l ready.0.location), (rw (is, e) at stored) ∙ sym (kept_write c l x)))
         (λ e. absurd (ready.1 e)))
-
--- An access that is kept though it races.
-module _ (c d : List ℕ) (k l x : ℕ) where
-  pub kept_quiet : (r : Bool) → r ≡ true → TestSays c d k l x r → RaceSays c d k l x false
-  kept_quiet true e says = says
-  kept_quiet false e says = absurd (true≢false (sym e))
-
-  pub kept_racing :
-      (r : Bool) (first second : ℕ) (one two : List ℕ) → r ≡ false → TestSays c d k l x r → (second ≡ second_held k) × (second ≤ FOR_SUMS)
-      → one ≡ raised_in d (FOR_SUMS - second) l x → (first ≡ first_held k) × (first ≤ FOR_SUMS) → two ≡ raised_in one (FOR_SUMS - first) l x
-      → RaceSays c two k l x true
-  unfolding raced_in
-  kept_racing true first second one two e says s stored f stored' = absurd (true≢false e)
-  kept_racing false first second one two e says s stored f stored' = let held = s.0 in let held' = f.0 in (says.0, cc (says.1, held, held', stored, stored'))
 
 -- The cell v of those that conflict with kind k becomes v' where an access of kind j with number x is kept.
 abbrev Raises : ℕ → ℕ → ℕ → ℕ → ℕ → Type 0

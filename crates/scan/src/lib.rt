@@ -1,6 +1,8 @@
 // The race test by numbers alone. Each event has the number of its segment, and of two accesses that conflict the later one races with the earlier exactly if
 // its number is smaller. So the largest number of those that an access conflicts with decides. Two of these for each location serve all kinds: what conflicts
 // with a write conflicts with a read or with a sum.
+#![tactic(auto)]
+
 ghost use Rattle.std.specs.Prelude.{◌≡◌, true, ◌≢◌, ◌≤◌};
 ghost use Rattle.trace.specs.Trace.{SUM, is_access};
 ghost use Rattle.trace.specs.Race.{conflicting};

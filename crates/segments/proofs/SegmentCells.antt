@@ -170,7 +170,7 @@ rank_law base (suc fuel) y i (z ∷ l) ws h once no_zero inside c =
     let own : 0 < occurrences y (y ∷ (z ∷ l)) = omega (arith, one_if_same y y refl) in
     let gone : occurrences y (z ∷ l) ≡ 0 = omega (arith, once y, one_if_same y y refl) in
     let apart : (a : ℕ) → 0 < occurrences a (z ∷ l) → base + a ≢ base + y =
-    λ a k f. let q : a ≡ y = omega arith in let k' : 0 < occurrences y (z ∷ l) = rw q at k in omega arith in
+    λ a k f. let q : a ≡ y = omega arith in let k' : 0 < occurrences y (z ∷ l) = subst (λ (x : ℕ). 0 < occurrences x (z ∷ l)) q k in omega arith in
     let on = chain_frame (link_at base ws) (link_at base ws₁) (get_or ws (base + y) 0) (z ∷ l)
     (λ a k. get_or-set_other ws (base + y) (base + a) i 0 (apart a k)) c in
     let rest = rank_law base fuel z (suc i) l ws₁ (omega arith) (λ q. omega (arith, once q)) (omega arith)
@@ -179,8 +179,10 @@ rank_law base (suc fuel) y i (z ∷ l) ws h once no_zero inside c =
       same_length = rest.same_length ∙ len;
       places = λ p k. either (same_or_not y p)
           (λ q.
-          rw (← q) (rest.others (base + y) (λ a k' f. apart a k' (sym f))
-          ∙ (get_or-set_same ws (base + y) i 0 (inside y own) ∙ omega (arith, place_here y y (z ∷ l) refl))))
+          let here : get_or (rank_in base fuel z (suc i) ws₁) (base + y) 0 ≡ i =
+          rest.others (base + y) (λ a k' f. apart a k' (sym f)) ∙ get_or-set_same ws (base + y) i 0 (inside y own) in
+          let first : i ≡ i + place p (y ∷ z ∷ l) = omega (arith, place_here p y (z ∷ l) q) in
+          subst (λ (x : ℕ). get_or (rank_in base fuel z (suc i) ws₁) (base + x) 0 ≡ i) q here ∙ first)
           (λ f. rest.places p (omega (arith, one_if_other y p f)) ∙ omega (arith, place_there p y (z ∷ l) f));
       others = λ j f. rest.others j (λ q k. f q (omega arith)) ∙ get_or-set_other ws (base + y) j i 0 (f y own);
     })

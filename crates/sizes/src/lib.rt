@@ -1,4 +1,6 @@
 // The size checks, rows 1 to 4: every call over a whole trace begins with `size_row`, or with `buffer_row` where it has order buffers.
+#![tactic(auto)]
+
 ghost use Rattle.std.specs.Prelude.{◌≡◌};
 ghost use Rattle.trace.specs.Line.{passes};
 ghost use Rattle.trace.specs.Outcome.{sizes, order_room};

@@ -1,6 +1,8 @@
 // The events that must be held to the line rules. An access to a location below 1,024 by the task of the event before it, an access too, keeps the rules where
 // that one did, and does not change the line: it is passed over. Every other event is a stop. The stops are found ahead of the rules, in two passes with no
 // branch that depends on an event, so that none can be mispredicted.
+#![tactic(auto)]
+
 ghost use Rattle.std.specs.Prelude.{◌≡◌, ◌+◌, ◌≤◌, ◌<◌, length};
 ghost use Rattle.trace.specs.Trace.{MAX_EVENTS};
 ghost use Rattle.trace.specs.Lent.{lent_trace};

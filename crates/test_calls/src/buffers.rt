@@ -28,7 +28,7 @@ pub fn soil(cells: &mut [u16], lent: usize, salt: usize) {
 
 // What a buffer must hold, of which so many cells are lent: in its first cells those of the memory from a place on, in the others the dirt of the salt. But
 // one cell, if it is there, is expected wrong.
-#[derive(Drop)]
+#[derive(Clone, Copy)]
 struct Expected {
     lent: usize,
     salt: usize,

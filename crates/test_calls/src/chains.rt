@@ -60,7 +60,7 @@ pub fn read_runs(cells: &mut [u16]) -> usize {
 }
 
 // A trace that is laid out: how many events it has, and what the judge must answer.
-#[derive(Drop)]
+#[derive(Clone, Copy)]
 pub struct Laid {
     pub events: usize,
     pub want: Reply,

@@ -29,7 +29,7 @@ sum sum CLEAN
     rows(count, CELLS)
 }
 
-#[derive(Drop)]
+#[derive(Clone, Copy)]
 struct Pair {
     one: usize,
     other: usize,

@@ -1,4 +1,6 @@
 // The calls of the judge and of the ordering call that the test program makes, and what must come of each. Nothing here calls the fast judge.
+#![tactic(auto)]
+
 pub mod buffers;
 pub mod chains;
 pub mod conflicts;
@@ -18,7 +20,7 @@ use trace::{Answer, Ordering, Refusal};
 
 // An answer in numbers. The case is CLEAN, RACE or REFUSED + number for the judge, YES, NO or REFUSED + number for the ordering call, and LISTED or REFUSED +
 // number for the list of pairs. The links are 0 where the answer has none.
-#[derive(Drop)]
+#[derive(Clone, Copy)]
 pub struct Reply {
     pub case: usize,
     pub a: usize,
@@ -91,7 +93,7 @@ pub fn reply_held(reply: Reply, want: Reply, cells: bool) -> Reply {
 }
 
 // A cell of a buffer that is expected wrong, on purpose: the comparison must notice it.
-#[derive(Drop)]
+#[derive(Clone, Copy)]
 pub struct Plant {
     pub buffer: usize,
     pub cell: usize,
@@ -122,7 +124,7 @@ pub const DUE: usize = 9;
 pub const OPERANDS: usize = 10;
 
 // A call: of the judge, or of the ordering call for p and q; how many cells it is lent; a salt for the dirt; and what must come of it, where that is told.
-#[derive(Drop)]
+#[derive(Clone, Copy)]
 pub struct Call {
     pub ordering: bool,
     pub p: usize,

@@ -50,7 +50,7 @@ fn number_of(word: usize) -> usize {
 
 // How many cells are made; what the next one holds so far, and its letters; whether anything of it has been read; whether a comment is being read; and
 // whether every cell so far could hold what was read.
-#[derive(Drop)]
+#[derive(Clone, Copy)]
 struct Scan {
     count: usize,
     value: usize,

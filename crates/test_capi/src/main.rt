@@ -1,5 +1,8 @@
 // The C functions as a caller sees them, by the places of their parameters: contracts go by names, and would not tell two that are exchanged. Each call is
-// written from `include/racejudge.h`. `racejudge_judge_cards` takes structs, which no function here can lend: the C and Rust tests call it.
+// written from `include/racejudge.h`. The C and Rust tests call `racejudge_judge_cards`.
+#![tactic(auto)]
+
+use std::io;
 use test_outcome::{all_agree, make_outcome, with};
 
 const CELLS: usize = 12295;
@@ -162,7 +165,7 @@ fn short_pairs_agree() -> bool {
     told & (earlier[0] == 9) & (later[0] == 9)
 }
 
-fn main() {
+fn main(rt: HostRuntime) -> io::Result<()> {
     let one = with(make_outcome(0, true), judge_agrees());
     let two = with(one, ordering_agrees());
     let three = with(two, translate_agrees());
@@ -172,7 +175,9 @@ fn main() {
     let seven = with(six, short_convert_agrees());
     let eight = with(seven, pairs_agree());
     all_agree(
-        b"C functions by the places of their parameters: ",
+        &rt,
+        "C functions by the places of their parameters: ",
         with(eight, short_pairs_agree()),
-    );
+    )?;
+    Ok(())
 }

@@ -1,6 +1,8 @@
 // The evidence for the cards: the judge with cards against the slow judge, and each card against one that is counted over all events. What it prints is held to
 // the file `stdout`.
-mod chains;
+#![tactic(auto)]
+
+mod chain_runs;
 mod compare;
 mod conflicts;
 mod filled;
@@ -13,80 +15,90 @@ mod random;
 mod tables;
 mod written;
 
-use libc::STDOUT_FILENO;
 use random::count_at;
+use std::io;
 use test_cells::plus;
 use test_outcome::{all_agree, all_noticed, make_outcome, print, print_all};
 
-fn print_refusal(counts: [usize; 31], number: usize) {
-    io::write_all(STDOUT_FILENO, b"  refused ");
-    io::print_decimal(STDOUT_FILENO, number as u64);
-    print(b": ", count_at(counts, plus(test_calls::REFUSED, number)));
+fn print_refusal(rt: &impl Print, counts: [usize; 31], number: usize) -> io::Result<()> {
+    print!(rt; "  refused {number}")?;
+    print(
+        rt,
+        ": ",
+        count_at(counts, plus(test_calls::REFUSED, number)),
+    )
 }
 
-fn print_refusals(counts: [usize; 31]) {
-    let mut number = 1;
-    while number < 17 {
-        print_refusal(counts, number);
-        number += 1;
+fn print_refusals(rt: &impl Print, counts: [usize; 31]) -> io::Result<()> {
+    for number in 1..17 {
+        print_refusal(rt, counts, number)?;
     }
+    Ok(())
 }
 
-fn print_counts(counts: [usize; 31]) {
-    print(b"  events in all: ", count_at(counts, random::EVENTS));
-    print(b"  numbers of records for each: ", lending::LENDINGS);
-    print(b"  clean: ", count_at(counts, test_calls::CLEAN));
-    print(b"  race: ", count_at(counts, test_calls::RACE));
-    print_all(b"  links, from 0 to 10:", &counts[random::LINKS..]);
-    print_refusals(counts);
+fn print_counts(rt: &impl Print, counts: [usize; 31]) -> io::Result<()> {
+    print(rt, "  events in all: ", count_at(counts, random::EVENTS))?;
+    print(rt, "  numbers of records for each: ", lending::LENDINGS)?;
+    print(rt, "  clean: ", count_at(counts, test_calls::CLEAN))?;
+    print(rt, "  race: ", count_at(counts, test_calls::RACE))?;
+    print_all(rt, "  links, from 0 to 10:", &counts[random::LINKS..])?;
+    print_refusals(rt, counts)
 }
 
-fn try_random() {
+fn try_random(rt: &impl Print) -> io::Result<()> {
     let trials = random::try_all();
     let counts = trials.counts;
     let all = trials.agreed == random::TRACES;
-    if all_agree(b"traces at random: ", make_outcome(trials.agreed, all)) {
-        print_counts(counts);
-        io::write_all(
-            STDOUT_FILENO,
-            b"all answers, all cards and all cells agree\n",
-        );
+    if all_agree(rt, "traces at random: ", make_outcome(trials.agreed, all))? {
+        print_counts(rt, counts)?;
+        println!(rt; "all answers, all cards and all cells agree")?;
     }
+    Ok(())
 }
 
-fn main() {
+fn main(rt: HostRuntime) -> io::Result<()> {
     if !all_agree(
-        b"runs that document 01 tells, and runs for the halts: ",
+        &rt,
+        "runs that document 01 tells, and runs for the halts: ",
         known::try_all(),
-    ) {
-        return;
+    )? {
+        return Ok(());
     }
-    if !all_agree(b"runs for the links: ", known::try_chains()) {
-        return;
+    if !all_agree(&rt, "runs for the links: ", known::try_chains())? {
+        return Ok(());
     }
-    if !all_agree(b"runs for the sums: ", known::try_sums()) {
-        return;
+    if !all_agree(&rt, "runs for the sums: ", known::try_sums())? {
+        return Ok(());
     }
     if !all_agree(
-        b"pairs of kinds of access, ordered and not: ",
+        &rt,
+        "pairs of kinds of access, ordered and not: ",
         conflicts::try_all(),
-    ) {
-        return;
+    )? {
+        return Ok(());
     }
-    if !all_agree(b"runs with long chains: ", chains::try_all()) {
-        return;
+    if !all_agree(&rt, "runs with long chains: ", chain_runs::try_all())? {
+        return Ok(());
     }
-    if !all_agree(b"lengths of slices: ", lengths::try_all()) {
-        return;
+    if !all_agree(&rt, "lengths of slices: ", lengths::try_all())? {
+        return Ok(());
     }
-    if !all_agree(b"cards written out, right and wrong: ", written::try_all()) {
-        return;
+    if !all_agree(
+        &rt,
+        "cards written out, right and wrong: ",
+        written::try_all(),
+    )? {
+        return Ok(());
     }
-    if !all_noticed(b"wrong expectations that were noticed: ", plants::try_all()) {
-        return;
+    if !all_noticed(
+        &rt,
+        "wrong expectations that were noticed: ",
+        plants::try_all(),
+    )? {
+        return Ok(());
     }
-    if !all_agree(b"calls on 32768 events: ", large::try_all()) {
-        return;
+    if !all_agree(&rt, "calls on 32768 events: ", large::try_all())? {
+        return Ok(());
     }
-    try_random();
+    try_random(&rt)
 }

@@ -16,7 +16,7 @@ pub const EVENTS: usize = 19;
 pub const LINKS: usize = 20;
 
 // The counts so far, and whether all answers agreed.
-#[derive(Drop)]
+#[derive(Clone, Copy)]
 pub struct Tally {
     pub counts: [usize; 31],
     pub agreed: bool,
@@ -87,7 +87,7 @@ fn try_one(seed: usize, tally: Tally) -> Tally {
 }
 
 // How many traces agreed, one after the other, and the counts.
-#[derive(Drop)]
+#[derive(Clone, Copy)]
 pub struct Trials {
     pub agreed: usize,
     pub counts: [usize; 31],

@@ -2,7 +2,7 @@
 use crate::{lengths, plants, written};
 use test_outcome::{Outcome, make_outcome};
 
-#[derive(Drop)]
+#[derive(Clone, Copy)]
 pub enum Table {
     Lengths,
     Cards,

@@ -1,5 +1,7 @@
 // Cells of lent slices for the test programs, read and written with the bound tested in the code: a read past the end gives 0, and a store there does
 // nothing. What is read and stored is a usize, so that callers make no casts.
+#![tactic(auto)]
+
 ghost use Rattle.std.specs.Prelude.{◌≤◌};
 
 fn wide(x: u16) -> usize {

@@ -1,5 +1,7 @@
 // One call of the judge, or of the ordering call, in dirty buffers: its answer and all cells that it was lent, and some behind them, are held to what must
 // come of it.
+#![tactic(auto)]
+
 use test_calls::buffers::{holds_orders, holds_zeros, soil};
 use test_calls::{Call, MISMATCH, Reply, reply_held, reply_of_answer, reply_of_ordering, wanted};
 use test_cells::least;

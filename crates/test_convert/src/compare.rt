@@ -13,7 +13,7 @@ use test_slow::{Sizes, first_break, size_row};
 // ---- the slow ones
 
 // What they say: the judge, with row 12 as it was; where the events break a rule, or how many they are; and how many operands change.
-#[derive(Drop)]
+#[derive(Clone, Copy)]
 pub struct Before {
     pub verdict: Reply,
     pub broken: usize,
@@ -131,7 +131,7 @@ fn convert_and_judge(
 // ---- both
 
 // What the conversion itself answers, or MISMATCH, and what was before it.
-#[derive(Drop)]
+#[derive(Clone, Copy)]
 pub struct Compared {
     pub reply: Reply,
     pub before: Before,

@@ -1,5 +1,7 @@
 // The evidence for the conversion of stored traces: it is held to a slow one, and the judge's verdict after it to that of the slow judge before it, with row 12 as
 // it was. What it prints is held to the file `stdout`.
+#![tactic(auto)]
+
 mod compare;
 mod known;
 mod lengths;
@@ -9,6 +11,7 @@ mod slow;
 
 use random::COUNTS;
 use slow::{RIGHT, WAYS};
+use std::io;
 use test_cells::{least, less, more};
 use test_outcome::{Outcome, all_agree, all_noticed, make_outcome, print_all, with};
 
@@ -53,42 +56,48 @@ fn try_all(group: usize, memory: &mut [usize]) -> Outcome {
 
 // ---- what is told
 
-fn run_told(memory: &mut [usize]) {
-    all_agree(b"runs that are told: ", known::try_all(RIGHT, memory));
+fn run_told(rt: &impl Print, memory: &mut [usize]) -> io::Result<()> {
+    all_agree(rt, "runs that are told: ", known::try_all(RIGHT, memory))?;
     all_noticed(
-        b"wrong conversions that were noticed: ",
+        rt,
+        "wrong conversions that were noticed: ",
         try_all(WRONG_WAYS, memory),
-    );
+    )?;
     all_noticed(
-        b"wrong expectations that were noticed: ",
+        rt,
+        "wrong expectations that were noticed: ",
         try_all(PLANTS, memory),
-    );
+    )?;
+    Ok(())
 }
 
-fn run_others(memory: &mut [usize]) {
-    all_agree(b"lengths of slices: ", try_all(LENGTHS, memory));
+fn run_others(rt: &impl Print, memory: &mut [usize]) -> io::Result<()> {
+    all_agree(rt, "lengths of slices: ", try_all(LENGTHS, memory))?;
     all_agree(
-        b"a nest of 1024 tasks, and traces at random: ",
+        rt,
+        "a nest of 1024 tasks, and traces at random: ",
         try_all(RANDOM, memory),
-    );
+    )?;
+    Ok(())
 }
 
-fn print_counts(memory: &[usize]) {
+fn print_counts(rt: &impl Print, memory: &[usize]) -> io::Result<()> {
     let from = least(COUNTS, memory.len());
     let to = from + least(7, memory.len() - from);
     print_all(
-        b"  converted, refused 1, 2, 3; operands that changed; clean, race, before and after:",
+        rt,
+        "  converted, refused 1, 2, 3; operands that changed; clean, race, before and after:",
         &memory[from..to],
-    );
+    )
 }
 
-fn run(memory: &mut [usize; test_slow::MEMORY]) {
-    run_told(memory);
-    run_others(memory);
-    print_counts(memory);
+fn run(rt: &impl Print, memory: &mut [usize; test_slow::MEMORY]) -> io::Result<()> {
+    run_told(rt, memory)?;
+    run_others(rt, memory)?;
+    print_counts(rt, memory)
 }
 
-fn main() {
+fn main(rt: HostRuntime) -> io::Result<()> {
     let mut memory = [0usize; test_slow::MEMORY];
-    run(&mut memory);
+    run(&rt, &mut memory)
 }

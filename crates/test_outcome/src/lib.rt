@@ -1,9 +1,11 @@
 // What a row of tries comes to, and how the test programs tell it.
-use libc::STDOUT_FILENO;
-use test_cells::{get_word, more};
+#![tactic(auto)]
+
+use std::io;
+use test_cells::more;
 
 // How many came out as told, one after the other, and whether these are all.
-#[derive(Drop)]
+#[derive(Clone, Copy)]
 pub struct Outcome {
     pub agreed: usize,
     pub all: bool,
@@ -21,41 +23,36 @@ pub fn with(before: Outcome, agrees: bool) -> Outcome {
     make_outcome(before.agreed, false)
 }
 
-fn print_next(n: usize) {
-    io::write_all(STDOUT_FILENO, b" ");
-    io::print_decimal(STDOUT_FILENO, n as u64);
+pub fn print(rt: &impl Print, text: &str, n: usize) -> io::Result<()> {
+    println!(rt; "{text}{n}")
 }
 
-pub fn print(text: &[u8], n: usize) {
-    io::write_all(STDOUT_FILENO, text);
-    io::print_decimal(STDOUT_FILENO, n as u64);
-    io::write_all(STDOUT_FILENO, b"\n");
+fn print_next(rt: &impl Print, n: usize) -> io::Result<()> {
+    print!(rt; " {n}")
 }
 
 // Numbers behind a text, in one line.
-pub fn print_all(text: &[u8], numbers: &[usize]) {
-    io::write_all(STDOUT_FILENO, text);
-    let mut i = 0;
-    while i < numbers.len() {
-        print_next(get_word(numbers, i));
-        i += 1;
+pub fn print_all(rt: &impl Print, text: &str, numbers: &[usize]) -> io::Result<()> {
+    print!(rt; "{text}")?;
+    for n in numbers {
+        print_next(rt, *n)?;
     }
-    io::write_all(STDOUT_FILENO, b"\n");
+    println!(rt)
 }
 
 // Whether all came out well; else the first that did not is told by its number.
-fn all_well(text: &[u8], fault: &[u8], outcome: Outcome) -> bool {
-    print(text, outcome.agreed);
+fn all_well(rt: &impl Print, text: &str, fault: &str, outcome: Outcome) -> io::Result<bool> {
+    print(rt, text, outcome.agreed)?;
     if !outcome.all {
-        print(fault, outcome.agreed);
+        print(rt, fault, outcome.agreed)?;
     }
-    outcome.all
+    Ok(outcome.all)
 }
 
-pub fn all_agree(text: &[u8], outcome: Outcome) -> bool {
-    all_well(text, b"MISMATCH at number ", outcome)
+pub fn all_agree(rt: &impl Print, text: &str, outcome: Outcome) -> io::Result<bool> {
+    all_well(rt, text, "MISMATCH at number ", outcome)
 }
 
-pub fn all_noticed(text: &[u8], outcome: Outcome) -> bool {
-    all_well(text, b"NOT NOTICED: number ", outcome)
+pub fn all_noticed(rt: &impl Print, text: &str, outcome: Outcome) -> io::Result<bool> {
+    all_well(rt, text, "NOT NOTICED: number ", outcome)
 }

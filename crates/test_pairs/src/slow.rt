@@ -10,7 +10,7 @@ use test_slow::{Sizes, first_refusal, size_row};
 
 // What is known before the slices for the pairs are looked at: the row by which the trace is refused and the position, or 0; and how many pairs there are, of a
 // trace that breaks a rule before that event.
-#[derive(Drop)]
+#[derive(Clone, Copy)]
 pub struct Found {
     pub number: usize,
     pub position: usize,

@@ -9,7 +9,7 @@ use test_cells::{get, get_byte, get_word, least, minus, more, plus, put, put_byt
 use test_samples::events::{Event, make_event};
 
 // The room of the slices, a salt for the dirt, and the wrong rule that the slow reader goes by, if any.
-#[derive(Drop)]
+#[derive(Clone, Copy)]
 pub struct Call {
     pub room: Cells,
     pub salt: usize,
@@ -50,7 +50,7 @@ fn soil(kinds: &mut [u8], tasks: &mut [u16], operands: &mut [u16], n: usize, sal
 }
 
 // What the first n cells of the slices must hold: so many events, and behind them the dirt of the salt.
-#[derive(Drop)]
+#[derive(Clone, Copy)]
 struct Expected {
     n: usize,
     events: usize,

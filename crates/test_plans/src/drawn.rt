@@ -6,7 +6,7 @@ use test_samples::draws::{below, next, stream};
 
 // ---- shapes
 
-#[derive(Drop)]
+#[derive(Clone, Copy)]
 pub struct Shape {
     // How deep it may get, and how many operators it may have.
     pub deepest: usize,
@@ -56,7 +56,7 @@ pub fn shape_of(seed: usize, operators: usize) -> Shape {
 
 // How many bytes are drawn, how many levels are open, and how many operators there are; whether a plan is due, or what stands behind one; whether the plan is
 // whole; and the draws' state.
-#[derive(Drop)]
+#[derive(Clone, Copy)]
 struct Growth {
     used: usize,
     depth: usize,
@@ -172,7 +172,7 @@ pub fn draw(memory: &mut [usize], shape: Shape, seed: usize) -> usize {
 // ---- damage
 
 // What becomes of the byte at a place: 0 nothing; 1 it is another byte; 2 it is removed; 3 a byte is put in before it; 4 the text ends before it.
-#[derive(Drop)]
+#[derive(Clone, Copy)]
 pub struct Damage {
     pub kind: usize,
     pub at: usize,

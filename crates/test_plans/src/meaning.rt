@@ -75,7 +75,7 @@ fn races(text: &[u8], memory: &[usize], s: usize, t: usize, plant: usize) -> boo
 
 // ---- the judge
 
-#[derive(Drop)]
+#[derive(Clone, Copy)]
 struct Verdict {
     case: usize,
     s: usize,
@@ -158,14 +158,14 @@ fn answer(kinds: &[u8], tasks: &[u16], operands: &[u16], p: usize, q: usize) -> 
 }
 
 // The group whose counts these are, and the wrong rule, if any.
-#[derive(Drop)]
+#[derive(Clone, Copy)]
 struct Asked {
     group: usize,
     plant: usize,
 }
 
 // Whether p reaches q.
-#[derive(Drop)]
+#[derive(Clone, Copy)]
 struct Question {
     p: usize,
     q: usize,

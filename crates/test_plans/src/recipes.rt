@@ -77,7 +77,7 @@ pub fn field(table: &[u8], start: usize, number: usize) -> usize {
 // ---- pieces
 
 // Where a piece begins and ends, how many times it is there or how deep its tree is, and which of both.
-#[derive(Drop)]
+#[derive(Clone, Copy)]
 struct Piece {
     start: usize,
     end: usize,

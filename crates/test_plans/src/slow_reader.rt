@@ -22,7 +22,7 @@ const LEFT: usize = 0;
 const RIGHT: usize = 1;
 
 // How far the reading has come: what is due, how many levels are open, the number so far, the leaves and P's met, and the row that is met, or 0.
-#[derive(Drop)]
+#[derive(Clone, Copy)]
 pub struct Reading {
     pub due: usize,
     pub depth: usize,

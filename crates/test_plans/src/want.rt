@@ -6,7 +6,7 @@ use test_cells::{least, less, more, plus};
 use trace::{Refusal, Translation};
 
 // The row and its position, or row 0 and the number of events.
-#[derive(Drop)]
+#[derive(Clone, Copy)]
 pub struct Want {
     pub row: usize,
     pub number: usize,
@@ -35,7 +35,7 @@ pub fn want_of(translation: Translation) -> Want {
 }
 
 // Three numbers of cells, one for each slice. As a room: how many more than needed, counted from 1; 0 is one too few.
-#[derive(Drop)]
+#[derive(Clone, Copy)]
 pub struct Cells {
     pub kinds: usize,
     pub tasks: usize,

@@ -1,178 +1,199 @@
 // The evidence: the judge against a slow one that stores all ancestors of all events. What it prints is held to the file `stdout`.
-mod chains;
+#![tactic(auto)]
+
+mod chain_runs;
 mod conflicts;
 mod known;
 mod large;
+mod lengths;
 mod lines;
 mod plants;
 mod random;
-mod sizes;
 mod tables;
 
-use libc::STDOUT_FILENO;
 use random::{COUNTS, count_at};
+use std::io;
 use test_cells::plus;
 use test_outcome::{all_agree, all_noticed, make_outcome, print, print_all};
 
-fn print_refusal(counts: [usize; COUNTS], from: usize, number: usize) {
-    io::write_all(STDOUT_FILENO, b"  refused ");
-    io::print_decimal(STDOUT_FILENO, number as u64);
+fn print_refusal(
+    rt: &impl Print,
+    counts: [usize; COUNTS],
+    from: usize,
+    number: usize,
+) -> io::Result<()> {
+    print!(rt; "  refused {number}")?;
     print(
-        b": ",
+        rt,
+        ": ",
         count_at(counts, plus(from, plus(test_calls::REFUSED, number))),
-    );
+    )
 }
 
-fn print_refusals(counts: [usize; COUNTS], from: usize) {
-    let mut number = 1;
-    while number < 14 {
-        print_refusal(counts, from, number);
-        number += 1;
+fn print_refusals(rt: &impl Print, counts: [usize; COUNTS], from: usize) -> io::Result<()> {
+    for number in 1..14 {
+        print_refusal(rt, counts, from, number)?;
     }
+    Ok(())
 }
 
 // The races by the kind of their earlier access, each with a later read, write and sum.
-fn print_races(counts: [usize; COUNTS]) {
+fn print_races(rt: &impl Print, counts: [usize; COUNTS]) -> io::Result<()> {
     print_all(
-        b"    of a read with a later read, write, sum:",
+        rt,
+        "    of a read with a later read, write, sum:",
         &counts[random::READ_RACES..random::WRITE_RACES],
-    );
+    )?;
     print_all(
-        b"    of a write:",
+        rt,
+        "    of a write:",
         &counts[random::WRITE_RACES..random::SUM_RACES],
-    );
-    print_all(b"    of a sum:", &counts[random::SUM_RACES..random::HALTS]);
+    )?;
+    print_all(
+        rt,
+        "    of a sum:",
+        &counts[random::SUM_RACES..random::HALTS],
+    )
 }
 
-fn print_judge(counts: [usize; COUNTS]) {
-    print(b"  events of a trace, at most: ", test_slow::EVENTS);
-    print(b"  events in all: ", count_at(counts, random::EVENTS));
-    print(b"  sums among them: ", count_at(counts, random::SUMS));
-    print(b"  clean: ", count_at(counts, test_calls::CLEAN));
-    print(b"  race: ", count_at(counts, test_calls::RACE));
-    print_races(counts);
+fn print_judge(rt: &impl Print, counts: [usize; COUNTS]) -> io::Result<()> {
+    print(rt, "  events of a trace, at most: ", test_slow::EVENTS)?;
+    print(rt, "  events in all: ", count_at(counts, random::EVENTS))?;
+    print(rt, "  sums among them: ", count_at(counts, random::SUMS))?;
+    print(rt, "  clean: ", count_at(counts, test_calls::CLEAN))?;
+    print(rt, "  race: ", count_at(counts, test_calls::RACE))?;
+    print_races(rt, counts)?;
     print_all(
-        b"  links, from 0 to 10:",
+        rt,
+        "  links, from 0 to 10:",
         &counts[random::LINKS..random::READ_RACES],
-    );
-    print_refusals(counts, 0);
+    )?;
+    print_refusals(rt, counts, 0)?;
     print_all(
-        b"  refused 12 of a halt that names 0, itself, another task, no task:",
+        rt,
+        "  refused 12 of a halt that names 0, itself, another task, no task:",
         &counts[random::HALTS..],
-    );
+    )
 }
 
-fn print_ordering(counts: [usize; COUNTS]) {
-    print(b"pairs of each trace: ", random::PAIRS);
+fn print_ordering(rt: &impl Print, counts: [usize; COUNTS]) -> io::Result<()> {
+    print(rt, "pairs of each trace: ", random::PAIRS)?;
     print(
-        b"  yes: ",
+        rt,
+        "  yes: ",
         count_at(counts, plus(random::ORDERING, test_calls::YES)),
-    );
+    )?;
     print(
-        b"  no: ",
+        rt,
+        "  no: ",
         count_at(counts, plus(random::ORDERING, test_calls::NO)),
-    );
-    print_refusals(counts, random::ORDERING);
+    )?;
+    print_refusals(rt, counts, random::ORDERING)
 }
 
-fn try_random(memory: &mut [usize]) {
+fn try_random(rt: &impl Print, memory: &mut [usize]) -> io::Result<()> {
     let trials = random::try_all(memory);
     let counts = trials.counts;
     let all = trials.agreed == random::TRACES;
-    if all_agree(b"traces at random: ", make_outcome(trials.agreed, all)) {
-        print_judge(counts);
-        print_ordering(counts);
-        io::write_all(STDOUT_FILENO, b"all answers and all cells agree\n");
+    if all_agree(rt, "traces at random: ", make_outcome(trials.agreed, all))? {
+        print_judge(rt, counts)?;
+        print_ordering(rt, counts)?;
+        println!(rt; "all answers and all cells agree")?;
     }
+    Ok(())
 }
 
-fn try_known(memory: &mut [usize]) -> bool {
+fn try_known(rt: &impl Print, memory: &mut [usize]) -> io::Result<bool> {
     all_agree(
-        b"runs that document 01 tells, and runs for the halts: ",
+        rt,
+        "runs that document 01 tells, and runs for the halts: ",
         known::try_all(memory),
     )
 }
 
-fn try_chains(memory: &mut [usize]) -> bool {
-    all_agree(b"runs for the links: ", known::try_chains(memory))
+fn try_chains(rt: &impl Print, memory: &mut [usize]) -> io::Result<bool> {
+    all_agree(rt, "runs for the links: ", known::try_chains(memory))
 }
 
-fn try_sums(memory: &mut [usize]) -> bool {
-    all_agree(b"runs for the sums: ", known::try_sums(memory))
+fn try_sums(rt: &impl Print, memory: &mut [usize]) -> io::Result<bool> {
+    all_agree(rt, "runs for the sums: ", known::try_sums(memory))
 }
 
-fn try_conflicts(memory: &mut [usize]) -> bool {
+fn try_conflicts(rt: &impl Print, memory: &mut [usize]) -> io::Result<bool> {
     all_agree(
-        b"pairs of kinds of access, ordered and not: ",
+        rt,
+        "pairs of kinds of access, ordered and not: ",
         conflicts::try_all(memory),
     )
 }
 
-fn try_long(memory: &mut [usize]) -> bool {
-    all_agree(b"runs with long chains: ", chains::try_all(memory))
+fn try_long(rt: &impl Print, memory: &mut [usize]) -> io::Result<bool> {
+    all_agree(rt, "runs with long chains: ", chain_runs::try_all(memory))
 }
 
-fn try_wrong(memory: &mut [usize]) -> bool {
+fn try_wrong(rt: &impl Print, memory: &mut [usize]) -> io::Result<bool> {
     all_noticed(
-        b"runs told wrong that were noticed: ",
+        rt,
+        "runs told wrong that were noticed: ",
         known::try_wrong(memory),
     )
 }
 
-fn try_plants(memory: &mut [usize]) -> bool {
+fn try_plants(rt: &impl Print, memory: &mut [usize]) -> io::Result<bool> {
     all_noticed(
-        b"wrong expectations that were noticed: ",
+        rt,
+        "wrong expectations that were noticed: ",
         plants::try_all(memory),
     )
 }
 
-fn try_sizes(memory: &mut [usize]) -> bool {
-    all_agree(b"lengths of slices: ", sizes::try_all(memory))
+fn try_sizes(rt: &impl Print, memory: &mut [usize]) -> io::Result<bool> {
+    all_agree(rt, "lengths of slices: ", lengths::try_all(memory))
 }
 
-fn try_large(memory: &mut [usize]) -> bool {
-    all_agree(b"calls on 32768 events: ", large::try_all(memory))
+fn try_large(rt: &impl Print, memory: &mut [usize]) -> io::Result<bool> {
+    all_agree(rt, "calls on 32768 events: ", large::try_all(memory))
 }
 
-fn try_lines(memory: &mut [usize]) -> bool {
-    all_agree(b"lines of 1024 tasks: ", lines::try_all(memory))
+fn try_lines(rt: &impl Print, memory: &mut [usize]) -> io::Result<bool> {
+    all_agree(rt, "lines of 1024 tasks: ", lines::try_all(memory))
 }
 
-fn run(memory: &mut [usize; test_slow::MEMORY]) {
-    if !try_known(memory) {
-        return;
+fn run(rt: &impl Print, memory: &mut [usize; test_slow::MEMORY]) -> io::Result<()> {
+    if !try_known(rt, memory)? {
+        return Ok(());
     }
-    if !try_chains(memory) {
-        return;
+    if !try_chains(rt, memory)? {
+        return Ok(());
     }
-    if !try_sums(memory) {
-        return;
+    if !try_sums(rt, memory)? {
+        return Ok(());
     }
-    if !try_conflicts(memory) {
-        return;
+    if !try_conflicts(rt, memory)? {
+        return Ok(());
     }
-    if !try_long(memory) {
-        return;
+    if !try_long(rt, memory)? {
+        return Ok(());
     }
-    if !try_wrong(memory) {
-        return;
+    if !try_wrong(rt, memory)? {
+        return Ok(());
     }
-    if !try_plants(memory) {
-        return;
+    if !try_plants(rt, memory)? {
+        return Ok(());
     }
-    if !try_sizes(memory) {
-        return;
+    if !try_sizes(rt, memory)? {
+        return Ok(());
     }
-    if !try_large(memory) {
-        return;
+    if !try_large(rt, memory)? {
+        return Ok(());
     }
-    if !try_lines(memory) {
-        return;
+    if !try_lines(rt, memory)? {
+        return Ok(());
     }
-    try_random(memory);
+    try_random(rt, memory)
 }
 
-fn main() {
+fn main(rt: HostRuntime) -> io::Result<()> {
     let mut memory = [0usize; test_slow::MEMORY];
-    run(&mut memory);
+    run(&rt, &mut memory)
 }

@@ -34,7 +34,7 @@ pub const HALTS: usize = 86;
 pub const COUNTS: usize = 90;
 
 // The counts so far, and whether all answers agreed.
-#[derive(Drop)]
+#[derive(Clone, Copy)]
 pub struct Tally {
     pub counts: [usize; COUNTS],
     pub agreed: bool,
@@ -192,7 +192,7 @@ fn try_one(seed: usize, tally: Tally, memory: &mut [usize]) -> Tally {
 }
 
 // How many traces agreed, one after the other, and the counts.
-#[derive(Drop)]
+#[derive(Clone, Copy)]
 pub struct Trials {
     pub agreed: usize,
     pub counts: [usize; COUNTS],

@@ -1,5 +1,5 @@
 // The tables whose rows have a fixed number of cells: the lengths of slices, and the plants.
-use crate::{plants, sizes};
+use crate::{lengths, plants};
 use test_outcome::{Outcome, make_outcome};
 
 // Whether a row comes out as it must.
@@ -13,7 +13,7 @@ fn row_agrees(
     if planted {
         return plants::is_noticed(cells, row, events, memory);
     }
-    sizes::run_agrees(cells, row, events, memory)
+    lengths::run_agrees(cells, row, events, memory)
 }
 
 // The table has so many rows. None at all is a fault.

@@ -14,7 +14,7 @@ pub const HALT: usize = 4;
 
 pub const SUM: usize = 5;
 
-#[derive(Drop)]
+#[derive(Clone, Copy)]
 pub struct Event {
     pub task: usize,
     pub kind: usize,

@@ -13,7 +13,7 @@ const HALTED: usize = 2048;
 
 // How many events there are, how many tasks run or are paused, how many have halted and are unjoined, and how many numbers are used; whether all halted
 // tasks are being joined; and the draws' state.
-#[derive(Drop)]
+#[derive(Clone, Copy)]
 struct Growth {
     count: usize,
     depth: usize,

@@ -1,4 +1,6 @@
 // Traces at random, from a seed. Most keep the line rules; some are then damaged at one place.
+#![tactic(auto)]
+
 mod damage;
 pub mod draws;
 pub mod events;

@@ -2,7 +2,7 @@
 use crate::draws::{below, next};
 use test_cells::more;
 
-#[derive(Drop)]
+#[derive(Clone, Copy)]
 pub struct Shape {
     // How many events.
     pub count: usize,

@@ -3,7 +3,7 @@ use crate::events::{READ, SUM, WRITE};
 use test_cells::{get, get_byte, more};
 
 // "for each location, the number of reads, the number of writes, and the first and last position that touched it"; "Cards of K1 gain a count of sums."
-#[derive(Drop)]
+#[derive(Clone, Copy)]
 pub struct Card {
     pub reads: usize,
     pub writes: usize,

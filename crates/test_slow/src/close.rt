@@ -66,7 +66,7 @@ pub const WAYS: usize = 19;
 
 // ---- pairs
 
-#[derive(Drop)]
+#[derive(Clone, Copy)]
 struct Pair {
     s: usize,
     t: usize,

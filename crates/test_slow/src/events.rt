@@ -14,7 +14,7 @@ pub const HALT: usize = 4;
 
 pub const SUM: usize = 5;
 
-#[derive(Drop)]
+#[derive(Clone, Copy)]
 pub struct Event {
     pub kind: usize,
     pub task: usize,
@@ -30,7 +30,7 @@ pub fn event_at(kinds: &[u8], tasks: &[u16], operands: &[u16], q: usize) -> Even
 }
 
 // A position, if there is one.
-#[derive(Drop)]
+#[derive(Clone, Copy)]
 pub enum Found {
     At(usize),
     Nothing,

@@ -8,7 +8,7 @@ use test_cells::{get_word, more, plus, put_word};
 const TASKS: usize = 1024;
 
 // The top of a task's tree, and how many links a walk up to it follows.
-#[derive(Drop)]
+#[derive(Clone, Copy)]
 struct Chain {
     top: usize,
     links: usize,

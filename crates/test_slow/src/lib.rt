@@ -1,5 +1,7 @@
 // The slow judge, the slow ordering call, slow cards and the slow list of close pairs: documents 01 and 02 taken at their word, with no part of the fast ones. Of
 // `trace` it uses the answer types alone.
+#![tactic(auto)]
+
 pub mod card;
 pub mod close;
 pub mod events;
@@ -31,7 +33,7 @@ const WORKSPACE: usize = 12288;
 const RECORDS: usize = 1024;
 
 // What the events come to, by document 01 alone: the links are counted once that is known.
-#[derive(Drop)]
+#[derive(Clone, Copy)]
 enum Verdict {
     Clean,
     Race(usize, usize),
@@ -43,7 +45,7 @@ fn refusal(number: usize, position: usize) -> Refusal {
 }
 
 // What an event comes to: the task that runs after it, or the verdict that it decides.
-#[derive(Drop)]
+#[derive(Clone, Copy)]
 enum Outcome {
     Passed(usize),
     Failed(Verdict),
@@ -119,7 +121,7 @@ fn take_all(
 }
 
 // How many cells of each slice are lent.
-#[derive(Drop)]
+#[derive(Clone, Copy)]
 pub struct Sizes {
     pub kinds: usize,
     pub tasks: usize,

@@ -7,7 +7,7 @@ use test_cells::{get_word, plus, put_word};
 pub const NOBODY: usize = 1024;
 
 // What a halt's operand must be, which is the caller's to choose: as document 02's K6 has it, or as it was before, by document 01.
-#[derive(Drop)]
+#[derive(Clone, Copy)]
 pub enum Halts {
     Named,
     Zero,

@@ -147,6 +147,9 @@ module _ (text : List ℕ) (b₀ b : Slices) (cells : List ℕ) (depth count at 
 pub with_meaning : {text : List ℕ} {b : Slices} {o : Translated} → o ≡ translated text b → (o ≡ translated text b) × DecidedBy text b o
 with_meaning {text} {b} e = (e, rw e (translated_decided text b))
 
+pub meaning : {text : List ℕ} {b : Slices} {o : Translated} → o ≡ translated text b → DecidedBy text b o
+meaning e = (with_meaning e).1
+
 pub translate_refused : (text : List ℕ) (r : Translation) (b b₁ b₂ : Slices) → attempt_of r b₁ ≡ attempted (translation text) 0 b₂
     → (x : Refusal) → r ≡ Refused x → translated_of r b ≡ translated text b
 unfolding translated translation_reply

@@ -10,30 +10,30 @@ use numbers::NumberToken;
 const GREATEST: u16 = 65535;
 
 // A place in a text.
-#[derive(Drop)]
+#[derive(Clone, Copy)]
 pub struct Cursor {
     pub at: usize,
 }
 
-#[derive(Drop)]
+#[derive(Clone, Copy)]
 pub enum WordToken {
     Matched(Cursor),
     Mismatch,
 }
 
-#[derive(Drop)]
+#[derive(Clone, Copy)]
 pub enum FieldToken {
     Field(u16, Cursor),
     NoField,
 }
 
-#[derive(Drop)]
+#[derive(Clone, Copy)]
 pub enum OperationToken {
     Known(Operation, Cursor),
     NoOperation,
 }
 
-#[derive(Drop)]
+#[derive(Clone, Copy)]
 pub enum LineToken {
     Whole(Line, Cursor),
     Malformed,

@@ -11,7 +11,7 @@ use form::{Line, Operation};
 use trace::{FORK, HALT, JOIN, READ, WRITE};
 
 // What a line leaves: the number of events and the depth of the stack.
-#[derive(Drop)]
+#[derive(Clone, Copy)]
 pub enum Added {
     To(usize, usize),
     TooMany,

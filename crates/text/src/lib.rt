@@ -1,4 +1,6 @@
 // From trace text to a trace: `translate` turns a text into the three slices that the judge takes.
+#![tactic(auto)]
+
 mod cursor;
 mod events;
 pub mod limits;

@@ -1,5 +1,7 @@
 // What a C caller is told: the judge of a whole trace, the ordering call, the conversion and the call for pairs return a code and store two values, the judge a
 // third one, and `specs/Codes.antt` says which. `capi` has them under their names in C.
+#![tactic(auto)]
+
 ghost use Rattle.std.specs.Prelude.{◌≡◌};
 ghost use Rattle.trace.specs.Outcome.{judge_outcome, ordering_outcome};
 ghost use Rattle.trace.specs.Demands.{JudgeDemand1, JudgeDemand2, JudgeDemand3, JudgeLinks, OrderingDemand1, OrderingCallDemand};

@@ -21,7 +21,7 @@ use Rattle.form.proofs.Accepted.{translation_at_most}
 use Rattle.form.proofs.TextForm.{translated_decided, decided_by_unique}
 use Rattle.text.proofs.Stored.{Stored}
 use Rattle.told.specs.Codes.{count_told}
-use Rattle.told_texts.specs.Codes.{translation_call, is_short, short_call, translate_call, translate_seen, TranslateCall, TranslateTells, short, decides}
+use Rattle.told_texts.specs.Codes.{translation_call, is_short, translate_call, translate_seen, TranslateCall, TranslateTells, short, decides}
 use Rattle.told_texts.specs.Codes.{copied}
 
 -- The call, and what it means.

@@ -1,5 +1,7 @@
 // What a C caller is told of a text and of a plan: their translations to three lent slices return a code and store two values, and `specs/Codes.antt` says which.
 // `capi` has them under their names in C.
+#![tactic(auto)]
+
 mod translation;
 
 ghost use Rattle.std.specs.Prelude.{◌≡◌};

@@ -59,17 +59,6 @@ pub data ConflictCase (tr : Trace) (l p q : ℕ) : Type 0 where
   second_sums : writes tr l p ≡ true → sums tr l q ≡ true → ConflictCase tr l p q
 
 module _ (tr : Trace) (n : ℕ) where
-  pub conflict_sym : {p q : ℕ} → Conflict tr n p q → Conflict tr n q p
-  conflict_sym {p} {q} c =
-      record {
-        first_event = c.second_event;
-        second_event = c.first_event;
-        first_access = c.second_access;
-        second_access = c.first_access;
-        one_location = sym c.one_location;
-        conflicting_kinds = conflicting_sym (tr.kind q) (tr.kind p) ∙ c.conflicting_kinds;
-      }
-
   -- A write conflicts with each access of its location.
   pub write_access_conflict :
       (l p q : ℕ) → p < n → q < n → writes tr l p ≡ true → is_access (tr.kind q) ≡ true → tr.operand q ≡ l → Conflict tr n p q

@@ -19,7 +19,7 @@ use Rattle.trace.specs.Outcome.{Reply, says, refused, Verdict, clean, race, or_e
 use Rattle.trace.specs.Demands.{KeepsRules, NoRaceBefore, IsClean, IsRefused, IsRace, Demand2, JudgeDemand2}
 use Rattle.trace.proofs.Tests.{by_test, either, lt_or_le, same_or_not, last_or_below, tests_fails, LeastIs, least_is}
 use Rattle.trace.proofs.Lines.{passes_not_fails, step_row, line_more, graph_all, kept_not_broken, broken_once, one_row}
-use Rattle.trace.proofs.Conflicts.{conflict_sym}
+use Rattle.trace.proofs.ConflictSymmetry.{conflict_sym}
 use Rattle.trace.proofs.Searches.{test_reach_graph, test_race_graph}
 
 -- Exactly one of the three holds of every trace, with one number and position, or one pair.

@@ -14,6 +14,7 @@ pub mod TaskZero
 pub mod Congruence
 pub mod OrderFacts
 pub mod Conflicts
+pub mod ConflictSymmetry
 pub mod Numbers
 pub mod Searches
 pub mod Counts

@@ -23,7 +23,8 @@ use Rattle.trace.proofs.Paths.{Forward, arc_inside, reach_le}
 use Rattle.trace.proofs.Lists.{occurrences_before_le, place_injective, latest_select, latest_before_select, InOrder, cut_unique, rising_count_up}
 use Rattle.trace.proofs.OrderFacts.{order_inside, order_at_most_once, positions_order, orders_same_entries, test_writes, test_sums, since_latest}
 use Rattle.trace.proofs.EventKinds.{test_access}
-use Rattle.trace.proofs.Conflicts.{conflict_sym, write_access_conflict, sum_read_conflict}
+use Rattle.trace.proofs.Conflicts.{write_access_conflict, sum_read_conflict}
+use Rattle.trace.proofs.ConflictSymmetry.{conflict_sym}
 
 -- An order that keeps all arcs has the end of a path no earlier than its start.
 pub reach_place_le : {tr : Trace} {n : ℕ} (o : List ℕ) {p q : ℕ} → KeepsArcs tr n n o → Reach tr n p q → place p o ≤ place q o

@@ -24,14 +24,14 @@ pub const TASKS: u16 = 1024;
 pub const MAX_EVENTS: usize = 32768;
 
 // One row of document 01's table, with the position that belongs to it.
-#[derive(Drop)]
+#[derive(Clone, Copy)]
 pub struct Refusal {
     pub number: usize,
     pub position: usize,
 }
 
 // What the judge of a whole trace answers. With clean and race also the largest number of links between a task and its top in the table of joins.
-#[derive(Drop)]
+#[derive(Clone, Copy)]
 pub enum Answer {
     Clean(usize),
     // The positions s and t of the pair, then the links.
@@ -40,14 +40,14 @@ pub enum Answer {
 }
 
 // What a call that writes a trace to three lent slices answers: the number of its events, or why nothing was written.
-#[derive(Drop)]
+#[derive(Clone, Copy)]
 pub enum Translation {
     Events(usize),
     Refused(Refusal),
 }
 
 // What the ordering call answers.
-#[derive(Drop)]
+#[derive(Clone, Copy)]
 pub enum Ordering {
     Yes,
     No,

@@ -1,0 +1,12 @@
+-- `forest::find` meets its contract: the loop follows the links of the task's chain. The measure is the number of links that are left.
+-- Assumes nothing.
+use Rattle.trace.specs.Joins.{links_of}
+use Rattle.forest.specs.Forest.{parents}
+use Rattle.forest.proofs.Climb.{Climbing}
+use Rattle.forest.proofs.find.Given as goal
+
+abbrev pub invariant-loop-link : goal.invariant-loop-link
+invariant-loop-link l = Climbing l.ws l.task l.at l.links l.link
+
+abbrev pub decreases-loop-link : goal.decreases-loop-link
+decreases-loop-link l = links_of (parents l.ws) l.at

@@ -1,0 +1,15 @@
+-- `input::decide` meets its contract (`Deciding`). Assumes nothing.
+use Rattle.input.proofs.Deciding.{decided_failed, decided_end, decided_again, decided_full}
+use Rattle.input.proofs.decide.Goals as goal
+
+pub returns-then-got-lt0 : goal.returns-then-got-lt0
+returns-then-got-lt0 c = search decided_failed
+
+pub returns-then-more-eq0 : goal.returns-then-more-eq0
+returns-then-more-eq0 c = search decided_end
+
+pub returns-then-total-room : goal.returns-then-total-room
+returns-then-total-room c = search decided_again
+
+pub returns : goal.returns
+returns c = search decided_full

@@ -1,0 +1,12 @@
+-- `report::is_partner` meets its contract. Assumes nothing.
+use Rattle.report.proofs.ReportingPartner.{other_location, no_conflict, by_number}
+use Rattle.report.proofs.is_partner.Goals as goal
+
+pub returns-then-operands-p : goal.returns-then-operands-p
+returns-then-operands-p c = search other_location
+
+pub returns-then-not-conflicts : goal.returns-then-not-conflicts
+returns-then-not-conflicts c = search no_conflict
+
+pub returns : goal.returns
+returns c = search by_number
