@@ -6,6 +6,7 @@
 #define _GNU_SOURCE
 #include <fcntl.h>
 #include <libgen.h>
+#include <signal.h>
 #include <stdbool.h>
 #include <string.h>
 #include <sys/wait.h>
@@ -169,6 +170,8 @@ int main(int words, char **word)
     static char text[TEXT_BYTES], out[OUTPUT_BYTES];
     size_t length = 0;
     name = basename(word[0]);
+    /* A write whose reader is gone fails, as for the program. */
+    signal(SIGPIPE, SIG_IGN);
     if (words > 1 && is("arguments_after_reading"))
         read_text(text, &length);
     if (words > 1 && !is("arguments_ignored") && !(is("empty_argument_ignored") && word[1][0] == '\0'))

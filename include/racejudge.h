@@ -17,7 +17,7 @@
  * and since lends records of 10. Version 2 had brought the third value that both judges store, `links`:
  * for version 1 a caller lent them two cells.
  *
- * Link libcapi.a, which `rt staticlib capi` writes, for x86-64 Linux. It needs only memset of the C
+ * Link libcapi.a, which `tools/archive` writes, for x86-64 Linux. It needs only memset of the C
  * library. Every call takes any contents and any lengths: nothing is required of the numbers in the
  * slices. What the language of the caller must see to: each pointer leads to as many cells as its
  * length says (also where the length is 0 it is not null), `values` leads to as many as the prototype

@@ -32,8 +32,8 @@ def contract_of(crate, function):  # the function's text up to its body, and wha
     for file in (f"crates/{crate}/src/{module}.rt" for module in modules or ["lib", "main"]):
         if found := re.search(rf"\bfn {name}\b.*?\{{$", CODE.get(file, ""), re.M | re.S):
             words = set(re.findall(r"[\w?′-]+", found[0]))
-            uses = re.findall(r"ghost use Rattle·(\w+?)(?:·specs)?\.(\w+)\.(\w+)\.\{(.*)\}", CODE[file])
-            cited = [f"crates/{of}/{folder}/{module}.antt" for of, folder, module, used in uses if words & set(used.split(", "))]
+            uses = re.findall(r"ghost use Rattle\.(\w+)\.(specs|proofs)\.(\w+)(?:\.\{(.*)\}| as (\w+));", CODE[file])
+            cited = [f"crates/{of}/{folder}/{module}.antt" for of, folder, module, used, whole in uses if words & {*used.split(", "), whole}]
             return found[0], set().union(*(DECLARED.get(path, ()) for path in cited))
     return "", set()
 

@@ -11,9 +11,9 @@ WORDS = {folder: {word for path, text in CODE.items() if path.startswith(folder)
          for folder in ("", "bench/", "examples/")}
 CRATES = {path.split("/")[1] for path in CODE if path.startswith("crates/")}
 EDITS = sorted((path.parts[-3], path.stem) for path in ROOT.glob("crates/*/must-fail/*.edit"))  # crate and label of each
-DECLARING = {  # definitions, theorems, fields, constructors; items, clauses, fields, variants
-    ".antt": r"^\s*(?:(?:pub|unfoldable|abbrev) )*(?:(?:record|data) ([^\s:]+)|([^\s:()]+) :\s)",
-    ".rt": r"\b(?:fn|struct|enum|const|mod|ensures) (\w+)|^\s+(?:pub )?(\w+): .*,$|^\s+([A-Z]\w*)(?:\(.*\))?,$",
+DECLARING = {  # definitions, theorems, fields, constructors, answers; items, clauses, fields, variants
+    ".antt": r"^\s*(?:(?:pub|unfoldable|abbrev) )*(?:(?:record|data|ruleset) ([^\s:]+)|([^\s:()]+) :\s)|^([^\s:(){}=-][^\s:(){}]*)(?: [^=\n]+)? =\s",
+    ".rt": r"\b(?:fn|struct|enum|const|mod|requires|ensures) (\w+)|^\s+(?:pub )?(\w+): .*,$|^\s+([A-Z]\w*)(?:\(.*\))?,$",
 }
 DECLARED = {path: {name for names in re.findall(DECLARING[end], text, re.M) for name in names if name}
             for path, text in CODE.items() if (end := Path(path).suffix) in DECLARING}

@@ -2,7 +2,7 @@
 import collections, json, os, resource, signal, subprocess, tempfile, threading
 
 ROOT = os.path.dirname(os.path.dirname(os.path.dirname(os.path.abspath(__file__))))
-PROGRAM = os.path.join(ROOT, 'target', 'bin', 'racejudge')
+CRATE = os.path.join(ROOT, 'crates', 'racejudge')
 
 # What a run writes on standard output and on standard error, its exit status (below 0: the signal that ended it), and what it leaves unread of a pipe.
 Ran = collections.namedtuple('Ran', 'out err status left', defaults=(b'', b'', 0, b''))
@@ -17,13 +17,11 @@ TEXT_BYTES = 53274
 
 
 def built(path=None):
-    """The program at `path`; without one the proved program, proved and built anew if a file of crates/ is newer."""
+    """The program at `path`; without one the proved program, which `rt run` proves and builds anew where what it is made from has changed, and runs once."""
     if path:
         return os.path.abspath(path)
-    files = [os.path.join(at, name) for at, _, names in os.walk(os.path.join(ROOT, 'crates')) for name in names]
-    if not os.path.exists(PROGRAM) or os.path.getmtime(PROGRAM) < max(map(os.path.getmtime, files)):
-        subprocess.run(['rt', 'check', 'racejudge'], cwd=ROOT, check=True, stdout=subprocess.DEVNULL)
-    return PROGRAM
+    subprocess.run(['rt', 'run'], cwd=CRATE, check=True, stdin=subprocess.DEVNULL, stdout=subprocess.DEVNULL)
+    return os.path.join(CRATE, 'out', 'racejudge')
 
 
 def slow_judge(path=None):

@@ -1,5 +1,5 @@
 //! Links the static library of the proved judge: the archive that RACEJUDGE_LIB names, else the one
-//! that `rt staticlib capi` proves and writes. It must be of the version of include/racejudge.h.
+//! that `tools/archive` proves and writes. It must be of the version of include/racejudge.h.
 
 #[path = "build/version.rs"]
 mod version;
@@ -14,8 +14,8 @@ const INSTEAD: &str =
 
 /// What to do about an archive of another version: one that was given, and one that was proved.
 const GIVEN_ANOTHER: &str =
-    "unset RACEJUDGE_LIB, and `rt staticlib capi` proves and writes an archive that fits";
-const PROVED_ANOTHER: &str = "let crates/capi have the version of the header, or the header its";
+    "unset RACEJUDGE_LIB, and `tools/archive` proves and writes an archive that fits";
+const PROVED_ANOTHER: &str = "let crates/capi_c have the version of the header, or the header its";
 
 fn main() {
     println!("cargo::rerun-if-changed=build.rs");
@@ -42,20 +42,27 @@ fn given(path: PathBuf) -> Result<PathBuf, String> {
 /// Has the archive proved and written.
 fn proved() -> Result<PathBuf, String> {
     let root = root();
-    for source in ["crates", "crates.txt"] {
-        println!("cargo::rerun-if-changed={}", root.join(source).display());
+    for source in sources(&root) {
+        println!("cargo::rerun-if-changed={}", source.display());
     }
-    let told = Command::new("rt").args(["staticlib", "capi"]).current_dir(&root).output();
-    let told = told.map_err(|error| {
-        format!("`rt staticlib capi` cannot be run: {error}\nput rt on the path, {INSTEAD}")
-    })?;
+    let told = Command::new(root.join("tools/archive")).output();
+    let told = told
+        .map_err(|error| format!("`tools/archive` cannot be run: {error}\nmend that, {INSTEAD}"))?;
     if told.status.success() {
         return Ok(root.join("target/staticlib/libcapi.a"));
     }
     let words = [told.stdout, told.stderr].concat();
     let (words, status) = (String::from_utf8_lossy(&words), told.status);
     let words = words.trim_end();
-    Err(format!("{words}\n`rt staticlib capi` failed ({status}): mend what it names, {INSTEAD}"))
+    Err(format!("{words}\n`tools/archive` failed ({status}): mend what it names, {INSTEAD}"))
+}
+
+/// What the archive is made from. What `rt` leaves in the folders of the crates is no part of it.
+fn sources(root: &Path) -> Vec<PathBuf> {
+    let crates = fs::read_dir(root.join("crates")).into_iter().flatten().flatten();
+    let parts = crates.flat_map(|one| ["src", "specs", "proofs"].map(|part| one.path().join(part)));
+    let whole = ["crates.txt", "tools/archive"].map(|file| root.join(file));
+    parts.filter(|part| part.is_dir()).chain(whole).collect()
 }
 
 /// Links a copy of the archive, under a name of its own, if it has the version of the header.

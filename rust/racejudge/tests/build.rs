@@ -1,14 +1,18 @@
-//! What the build of the library does where no archive is named: `rt` proves and writes one. The gate
-//! names one, so here the build script is run by itself, with a stand-in for `rt`.
+//! What the build of the library does where no archive is named: `tools/archive` has `rt` prove and
+//! write one. The gate names one, so here the build script is run by itself, with a stand-in for `rt`.
 
 use std::env;
 use std::fs;
-use std::os::unix::fs::PermissionsExt;
+use std::os::unix::fs::{symlink, PermissionsExt};
 use std::path::{Path, PathBuf};
 use std::process::Command;
 
 const HEADER: &str = include_str!("../../../include/racejudge.h");
+const SCRIPT: &str = include_str!("../../../tools/archive");
 const LINKED: &str = "cargo::rustc-link-lib=static=racejudge_linked";
+
+/// What the script needs beside `rt`.
+const TOOLS: [&str; 4] = ["dirname", "mkdir", "cp", "mv"];
 
 /// An archive whose index has one function.
 fn archive(function: &str) -> Vec<u8> {
@@ -16,24 +20,47 @@ fn archive(function: &str) -> Vec<u8> {
     [format!("!<arch>\n{:<48}{:<10}`\n", "/", index.len()).as_bytes(), &index].concat()
 }
 
+fn program(path: PathBuf, script: &str) {
+    fs::write(&path, script).expect("a script");
+    fs::set_permissions(path, fs::Permissions::from_mode(0o755)).expect("a program");
+}
+
+fn place_of(tool: &str) -> PathBuf {
+    let path = env::var_os("PATH").expect("a path");
+    let places = env::split_paths(&path).map(|folder| folder.join(tool)).find(|it| it.is_file());
+    places.expect("a tool of every system")
+}
+
 /// A repository with nothing but what the build script looks at.
 struct Repository(PathBuf);
 
 impl Repository {
-    /// One with an archive that was written before, and this shell script in the place of `rt`.
+    /// One with an archive that was written before, and this shell script in the place of `rt`, which
+    /// finds the archive that it wrote then.
     fn new(name: &str, rt: Option<&str>) -> Self {
         let root = Path::new(env!("CARGO_TARGET_TMPDIR")).join(name);
         _ = fs::remove_dir_all(&root);
-        for folder in ["include", "target/staticlib", "rust/racejudge", "bin", "out"] {
+        for folder in [
+            "include",
+            "target/staticlib",
+            "rust/racejudge",
+            "tools",
+            "crates/capi_c/out",
+            "bin",
+            "out",
+        ] {
             fs::create_dir_all(root.join(folder)).expect("a folder");
         }
         fs::write(root.join("include/racejudge.h"), HEADER).expect("a header");
-        fs::write(root.join("target/staticlib/libcapi.a"), archive("racejudge_version_6"))
-            .expect("an archive");
+        for file in ["target/staticlib/libcapi.a", "crates/capi_c/out/libcapi_c.a"] {
+            fs::write(root.join(file), archive("racejudge_version_6")).expect("an archive");
+        }
+        program(root.join("tools/archive"), SCRIPT);
+        for tool in TOOLS {
+            symlink(place_of(tool), root.join("bin").join(tool)).expect("a link");
+        }
         if let Some(script) = rt {
-            let path = root.join("bin/rt");
-            fs::write(&path, format!("#!/bin/sh\n{script}\n")).expect("a script");
-            fs::set_permissions(path, fs::Permissions::from_mode(0o755)).expect("a program");
+            program(root.join("bin/rt"), &format!("#!/bin/sh\n{script}\n"));
         }
         Repository(root)
     }
@@ -60,7 +87,7 @@ impl Repository {
 
 #[test]
 fn what_is_proved_is_linked() {
-    let rt = "[ \"$*\" = 'staticlib capi' ] && echo >> target/staticlib/libcapi.a";
+    let rt = "[ \"${PWD##*/} $*\" = 'capi_c lib' ] && echo >> out/libcapi_c.a";
     let repository = Repository::new("proved", Some(rt));
     let told = repository.told();
     assert!(told.contains(LINKED) && !told.contains("cargo::error"), "{told}");
@@ -74,10 +101,10 @@ fn what_is_not_proved_is_not_linked() {
     for (name, rt, why) in [
         (
             "refused",
-            Some("echo 'crates/capi: not proved'; exit 1"),
-            "cargo::error=crates/capi: not proved\n",
+            Some("echo 'src/lib.rt: not proved'; exit 1"),
+            "cargo::error=src/lib.rt: not proved\n",
         ),
-        ("missing", None, "cargo::error=`rt staticlib capi` cannot be run"),
+        ("missing", None, "cargo::error=tools/archive: rt is not on the path"),
     ] {
         let told = Repository::new(name, rt).told();
         assert!(told.contains(why) && !told.contains(LINKED), "{told}");
@@ -87,8 +114,8 @@ fn what_is_not_proved_is_not_linked() {
 #[test]
 fn what_is_proved_of_another_version_is_not_linked() {
     let repository = Repository::new("another", Some("exit 0"));
-    fs::write(repository.0.join("target/staticlib/libcapi.a"), archive("racejudge_version_5"))
-        .expect("an archive");
+    let file = repository.0.join("crates/capi_c/out/libcapi_c.a");
+    fs::write(file, archive("racejudge_version_5")).expect("an archive");
     let told = repository.told();
     assert!(told.contains("cargo::error") && !told.contains(LINKED), "{told}");
 }

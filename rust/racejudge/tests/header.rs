@@ -7,7 +7,7 @@ use racejudge::{
 use std::mem::offset_of;
 
 const HEADER: &str = include_str!("../../../include/racejudge.h");
-const CODE: &str = include_str!("../../../crates/capi/src/lib.rt");
+const CODE: &str = include_str!("../../../crates/capi_c/src/lib.rt");
 
 fn says(words: String) {
     assert!(HEADER.contains(&words), "{words}");
