@@ -63,7 +63,11 @@ def check_edits(where, crate, cell):  # every word with an underscore, but those
         if name not in CRATES:
             check("edits", where, (other or crate, name) in EDITS, f"no edit {name} of crate {other or crate}")
 
-def check_row(where, crate, contracts, row):
+def written(crate, edit):  # the words that an edit writes: an answer may take the name that a goal has with the edit
+    text = CODE.get(f"crates/{crate}/must-fail/{edit}.edit", "")
+    return {word for line in re.findall(r"^new:(.*)$", text, re.M) for word in line.split()}
+
+def check_row(where, crate, contracts, row, edit):
     for head, cell in row.items():
         if head == "carried by":
             names = quoted(cell) + re.findall(r"\*(\w+)\*", cell)
@@ -73,7 +77,10 @@ def check_row(where, crate, contracts, row):
             check_contract(where, contracts, cell)
         elif head == page.FIRST_ERROR:
             first = re.match(r"(\S+) `([^`]+)`", cell) or ["", "", page.FIRST_ERROR]
-            check_names(where, crate, [first[2]], first[1])
+            if first[2] in written(crate, edit):
+                check("names", where, names_in(crate, first[1]), f"no file {first[1]}")
+            else:
+                check_names(where, crate, [first[2]], first[1])
         else:
             check_words(where, cell)
         if edits := re.fullmatch(r"edits?|(?:edits )?in `(\w+)`", head):
@@ -86,7 +93,7 @@ def check_claims():
         if line.is_row:
             sound = line.crate and len(line.cells) == len(line.header) and {"carried by", page.FIRST_ERROR} & set(line.header)
             check("rows", line.where, sound, "no crate is given above, or the columns are not those of a table of claims or edits")
-            check_row(line.where, line.crate, line.contracts, dict(zip(line.header, line.cells)))
+            check_row(line.where, line.crate, line.contracts, dict(zip(line.header, line.cells)), line.edit)
             told.add((line.crate, line.edit))
         elif not line.cells:
             check_words(line.where, line.text)
