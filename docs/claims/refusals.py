@@ -32,8 +32,11 @@ def told():
     text = LOG.read_text(encoding="utf-8") if LOG.exists() else ""
     return {(crate, label): said for crate, label, said in re.findall(r"^rt: must-fail (\w+)/([\w.-]+)\.edit: (.*)$", text, re.M)}
 
-def function_at(crate, file, number):  # of the code, at a line or above; a line of an edit stands for one line
-    lines = TEXT.get(f"crates/{crate}/{file}", "").splitlines()[:number]
+def function_at(crate, file, number):  # of the code, at a line or above, under its attributes; a line of an edit stands for one line
+    lines = TEXT.get(f"crates/{crate}/{file}", "").splitlines()
+    while number < len(lines) and lines[number - 1].startswith("#["):
+        number += 1
+    lines = lines[:number]
     return next((found[1] for line in reversed(lines) if (found := re.search(r"\bfn (\w+)", line))), "")
 
 def whole_words(message, room):
