@@ -34,7 +34,7 @@ def told():
 
 def function_at(crate, file, number):  # of the code, at a line or above, under its attributes; a line of an edit stands for one line
     lines = TEXT.get(f"crates/{crate}/{file}", "").splitlines()
-    while number < len(lines) and lines[number - 1].startswith("#["):
+    while number < len(lines) and lines[number - 1].lstrip().startswith("#["):
         number += 1
     lines = lines[:number]
     return next((found[1] for line in reversed(lines) if (found := re.search(r"\bfn (\w+)", line))), "")

@@ -9,12 +9,12 @@ use lib.ListN.{length, take, drop, replicate, length-append, length-map}
 use lib.Dec.{leb}
 use lib.Seq.{take_at, length-take-le}
 use borrow.Author.Tests.{lt-ltb, le-leb}
+use Rattle.std.specs.Prelude.{Result, Err}
 use Rattle.trace.specs.Trace.{Event, WORKSPACE_CELLS}
 use Rattle.trace.specs.Outcome.{Reply, says, refused, Verdict, clean, race, Outcome, judge_outcome}
 use Rattle.trace.specs.Answers.{judge_reply, judge_links}
 use Rattle.trace.specs.Demands.{JudgeLinks}
-use Rattle.trace.specs.declared.Answer.{Answer}
-use Rattle.trace.specs.declared.Answer.TheVariants.{Refused}
+use Rattle.trace.specs.declared.Verdict as code
 use Rattle.trace.specs.declared.Refusal.{Refusal}
 use Rattle.trace.proofs.Demand1.{judge_demand_1}
 use Rattle.trace.proofs.Sizes.{refused_not_says}
@@ -31,7 +31,7 @@ use Rattle.answer.specs.Answer.{Counts, zeros, judged, judged_events, printed, t
 
 -- ---- the judge's outcome, rendered, and the links beside it
 
-module _ (kinds tasks operands : List ℕ) (r : Answer) (ws first second : List ℕ) (e : judge_gives r ws first second
+module _ (kinds tasks operands : List ℕ) (r : Result code.Verdict Refusal) (ws first second : List ℕ) (e : judge_gives r ws first second
     ≡ judge_outcome kinds tasks operands (replicate (WORKSPACE_CELLS + MAX_TEXT_EVENTS) 0) (replicate MAX_TEXT_EVENTS 0) (replicate MAX_TEXT_EVENTS 0)) where
   pub render_judged : (out : List ℕ) (b : Buffer) → b ≡ rendered (judge_reply r) (length kinds) first second out → b ≡ events_rendered kinds tasks operands out
   unfolding events_rendered judged zeros judge_gives
@@ -41,7 +41,7 @@ module _ (kinds tasks operands : List ℕ) (r : Answer) (ws first second : List 
   unfolding judged zeros judge_gives
   links_judged l = subst (λ (o : Outcome). JudgeLinks kinds tasks operands o.answer o.links) e l
 
-pub render_refusal : (x : Refusal) (out : List ℕ) (b : Buffer) → b ≡ rendered (judge_reply (Refused x)) 0 [] [] out
+pub render_refusal : (x : Refusal) (out : List ℕ) (b : Buffer) → b ≡ rendered (judge_reply (Err x)) 0 [] [] out
     → b ≡ rendered (refused x.number x.position) 0 [] [] out
 unfolding judge_reply
 render_refusal x out b e = e

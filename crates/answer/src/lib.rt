@@ -10,7 +10,7 @@ pub use output::OUTPUT_BYTES;
 use sizes::WORKSPACE_CELLS;
 use text::limits::MAX_TEXT_EVENTS;
 pub use text::limits::TEXT_BYTES;
-use trace::{Answer, Refusal, Translation};
+use trace::Refusal;
 
 // Room for the judge of 2,048 events.
 const CELLS: usize = WORKSPACE_CELLS + MAX_TEXT_EVENTS;
@@ -32,7 +32,7 @@ fn answer_refusal(refusal: Refusal, out: &mut [u8]) -> usize
     ensures { buffer out.new result ≡ rendered (refused refusal.number refusal.position) 0 [] [] out.old }
 {
     let none = [0u16; 0];
-    output::render(Answer::Refused(refusal), 0, &none, &none, out)
+    output::render(Err(refusal), 0, &none, &none, out)
 }
 
 // THE ANSWER to a text: the whole output stands at the start of the buffer, and the result is the number of its bytes. A buffer of fewer than
@@ -48,10 +48,8 @@ pub fn answer(text: &[u8], out: &mut [u8]) -> usize
     let mut operands = [0u16; MAX_TEXT_EVENTS];
     let translation = text::translate(text, &mut kinds, &mut tasks, &mut operands);
     match translation {
-        Translation::Events(count) => {
-            answer_events(&kinds[..count], &tasks[..count], &operands[..count], out)
-        }
-        Translation::Refused(refusal) => answer_refusal(refusal, out),
+        Ok(count) => answer_events(&kinds[..count], &tasks[..count], &operands[..count], out),
+        Err(refusal) => answer_refusal(refusal, out),
     }
 }
 

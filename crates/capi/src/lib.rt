@@ -1,5 +1,5 @@
-// The calls of the C interface, for Rattle crates; `capi_c` exports each of them to C under its name. A call returns a code and stores two values, the judge three
-// (`told`, `told_texts`).
+// The calls of the C interface, for Rattle crates. `capi_c` exports each of them to C under its name, with the same clauses: an export has its own, and no crate can
+// rest on a static library. A call returns a code and stores two values, the judge three (`told`, `told_texts`). Slices and numbers stand side by side as C lends them.
 #![tactic(auto)]
 
 ghost use Rattle.std.specs.Prelude.{◌≡◌, ◌≤◌, length};
@@ -160,10 +160,8 @@ fn put_cards(cards: &mut [Card], ws: &[u16], k: usize)
     requires { (k ≤ length cards.old) × Tables ws.now k }
     ensures { cards.new ≡ with_cards (card_in ws.now) k cards.old }
 {
-    let mut i = 0;
-    while i < k {
-        cards[i] = cards::card_of(ws, i);
-        i = i + 1;
+    for (l, card) in cards[..k].iter_mut().enumerate() {
+        *card = cards::card_of(ws, l);
     }
 }
 

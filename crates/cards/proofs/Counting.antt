@@ -1,24 +1,26 @@
 -- The judge for a caller who lends so many records: row 16, the judge's own answer, and the tables after clean. Assumes nothing.
 use Prim.Native.Nat.{ℕ, ◌+◌, ◌≤◌, ◌<◌}
 use mathlib.Core.Path.{◌≡◌, refl, sym, ap, subst, ◌∙◌}
-use mathlib.Core.Bool.{Bool, true, false, ◌&&◌}
+use mathlib.Core.Bool.{Bool, true, false, false≢true}
 use mathlib.Core.List.{List, [], ◌∷◌}
-use mathlib.Core.Logic.{◌≢◌}
+use mathlib.Core.Logic.{◌≢◌, ◌↔◌}
+use Rattle.std.specs.Prelude.{Result, Ok, Err}
+use Rattle.std.specs.Result.{is_ok}
 use native.Mathlib.Omega.{arith}
-use lib.Dec.{eqb, ltb}
 use lib.ListN.{length, get_or}
 use borrow.Author.Tests.{lt-ltb, le-ltb}
 use Rattle.trace.specs.Trace.{trace_of, is_access, LOCATIONS, WORKSPACE_CELLS}
 use Rattle.trace.specs.Line.{Checked, passes, fails, row, halt_operand}
 use Rattle.trace.specs.Outcome.{Reply, says, refused, Verdict, clean, race, sizes, order_room, cleared, Outcome, judge_checked, judge_outcome}
-use Rattle.trace.proofs.Tests.{test_eq, test_lt, test_and, tests_fails}
+use Rattle.trace.specs.declared.Row.{Row}
+use Rattle.trace.specs.Rows.{row_number}
+use Rattle.trace.proofs.Tests.{either, lt_or_le}
 use Rattle.trace.proofs.Lines.{by_check, passes_not_fails, located}
-use Rattle.trace.proofs.Sizes.{Sized, sized_first, says_sized}
+use Rattle.trace.proofs.Sizes.{Sized, sized_first, says_sized, order_room_row}
 use Rattle.trace.proofs.Demand2.{judge_demand_2}
 use Rattle.cells.specs.Cells.{zeroed}
 use Rattle.cells.proofs.Zeroed.{zeroed_length, zeroed_below, zeroed_cleared}
-use Rattle.sizes.specs.Rows.{row_of}
-use Rattle.sizes.proofs.Sizing.{buffers_pass}
+use Rattle.sizes.specs.Rows.{checked}
 use Rattle.chains.proofs.Reported.{links_checked, judge_links_law}
 use Rattle.told.specs.Codes.{Told, judge_told, judge_call, judge_seen}
 use Rattle.told.proofs.Heard.{seen_said, seen_workspace, seen_first, seen_second}
@@ -67,18 +69,42 @@ module _ (kinds tasks operands workspace first second : List ℕ) (records : ℕ
   unfolding card_sizes card_room row
   same_sizes enough = by_check checks (λ n e. rw (e, le-ltb records LOCATIONS (enough n e))) (λ number e. rw e)
 
+  -- A row that they meet is none of the cards'.
+  not_met : (number : ℕ) → checks ≡ fails number → card_sizes kinds tasks operands workspace first second records ≡ fails 16 → ⊥
+  unfolding card_sizes card_room
+  not_met number met t =
+      let between = order_room_row kinds tasks operands workspace first second number met in
+      let same : ◌≡◌ {A = Checked ℕ} (fails number) (fails 16) = rw met at t in
+      let sixteen : number ≡ 16 = cc in
+      omega (arith, between)
+
   pub judged_same : ((n : ℕ) → checks ≡ passes n → LOCATIONS ≤ records) → o ≡ judged
   unfolding judged_with judge_outcome
   judged_same enough = ap (judge_checked kinds tasks operands workspace first second) (same_sizes enough)
 
-  module _ (few : Bool) (e : few ≡ (ltb records LOCATIONS && eqb (row_of checks) 0)) where
+  -- The sizes fail by row 16 where too few records meet what passes rows 1 to 4,
+  pub few_asked :
+      (result : Result (Unit {0}) Row) → checked (length kinds) result ≡ checks → records < LOCATIONS
+      → (is_ok result ≡ true) ↔ (card_sizes kinds tasks operands workspace first second records ≡ fails 16)
+  few_asked (Ok done) e few = (λ t. few_sizes (length kinds) (sym e) few, λ t. refl)
+  few_asked (Err met) e few = (λ t. absurd (false≢true t), λ t. absurd (not_met (row_number met) (sym e) t))
+
+  -- and by none where there are enough.
+  pub few_enough : LOCATIONS ≤ records → (false ≡ true) ↔ (card_sizes kinds tasks operands workspace first second records ≡ fails 16)
+  few_enough enough = (
+    λ t. absurd (false≢true t),
+    λ t.
+        let met : checks ≡ fails 16 = sym (same_sizes (λ n e. enough)) ∙ t in
+        absurd (omega (arith, order_room_row kinds tasks operands workspace first second 16 met)),
+  )
+
+  module _ (few : Bool) (e : (few ≡ true) ↔ (card_sizes kinds tasks operands workspace first second records ≡ fails 16)) where
     -- `judge_counted` refuses by row 16:
     pub counted_few : few ≡ true → Counted kinds tasks operands records o (judge_seen 2 (16 ∷ 0 ∷ 0 ∷ []) workspace first second)
     unfolding judged_with judge_checked judge_told
     counted_few f =
-        let both = (test_and _ _ (test_lt records LOCATIONS) (test_eq (row_of checks) 0)).0 (sym e ∙ f) in
-        let passed = buffers_pass kinds tasks operands workspace first second (row_of checks) refl both.1 in
-        rw (few_sizes _ passed both.0) (record {
+        let met = e.0 f in
+        rw met (record {
           said = refl;
           chains = links_checked kinds tasks operands workspace first second (fails 16) (λ n q. absurd (passes_not_fails q refl));
           of_first = refl;
@@ -89,12 +115,7 @@ module _ (kinds tasks operands workspace first second : List ℕ) (records : ℕ
     -- or lets the judge answer.
     module _ (f : few ≡ false) where
       enough : (n : ℕ) → checks ≡ passes n → LOCATIONS ≤ records
-      unfolding row_of
-      enough n passed =
-          let none : row_of checks ≡ 0 = ap row_of passed in
-          let not_few : records < LOCATIONS → ⊥ =
-          λ few. tests_fails _ (test_and _ _ (test_lt records LOCATIONS) (test_eq (row_of checks) 0)) (sym e ∙ f) (few, none) in
-          omega arith
+      enough n passed = either (lt_or_le records LOCATIONS) (λ l. absurd (false≢true (sym f ∙ e.1 (few_sizes n passed l)))) (λ h. h)
 
       module _ (code : ℕ) (values w a b : List ℕ) (seen : judge_seen code values w a b ≡ judge_call judged) where
         code_is : code ≡ (judge_told judged.answer judged.links).code

@@ -1,17 +1,14 @@
 -- One law for each return of the small functions. Assumes nothing.
-use Prim.Native.Nat.{ℕ, ◌+◌, ◌-◌, ◌≤◌, ◌<◌}
+use Prim.Native.Nat.{ℕ, ◌+◌, ◌≤◌, ◌<◌}
 use mathlib.Core.Path.{◌≡◌, ap, ◌∙◌}
-use mathlib.Core.Bool.{false, ◌&&◌}
 use mathlib.Core.List.{List}
 use mathlib.Core.Logic.{◌≢◌}
 use native.Mathlib.Omega.{arith}
-use lib.Dec.{eqb, ltb}
 use lib.ListN.{length, get_or, set}
-use borrow.Author.Tests.{eq-eqb, ne_eqb, lt-ltb, le-ltb}
+use borrow.Author.Tests.{eq-eqb, ne_eqb}
 use Rattle.trace.specs.Trace.{READ, WRITE, SUM, LOCATIONS, MAX_EVENTS}
 use Rattle.cells.specs.Cells.{zeroed}
 use Rattle.cards.specs.declared.Card.{Card}
-use Rattle.cards.specs.Cards.{NOWHERE}
 use Rattle.cards.specs.Tally.{FIRST, LAST, counts_of, TALLY_CELLS, earlier, touched_in, Touchable, position_in, card_in, due_after, Tables, wiped}
 
 pub due_clean : (code : ℕ) → code ≡ 0 → LOCATIONS ≡ due_after code
@@ -21,22 +18,6 @@ due_clean code e = rw (eq-eqb code 0 e)
 pub due_other : (code : ℕ) → code ≢ 0 → 0 ≡ due_after code
 unfolding due_after
 due_other code e = rw (ne_eqb code 0 e)
-
-pub earlier_none : (old at : ℕ) → old ≡ 0 → at + 1 ≡ earlier old at
-unfolding earlier
-earlier_none old at e = rw (eq-eqb old 0 e)
-
-pub earlier_some : (old at : ℕ) → old ≢ 0 → old ≡ earlier old at
-unfolding earlier
-earlier_some old at e = rw (ne_eqb old 0 e)
-
-pub position_none : (cell : ℕ) → cell ≡ 0 → NOWHERE ≡ position_in cell
-unfolding position_in
-position_none cell e = rw (eq-eqb cell 0 e)
-
-pub position_some : (cell : ℕ) → cell ≢ 0 → cell - 1 ≡ position_in cell
-unfolding position_in
-position_some cell e = rw (ne_eqb cell 0 e)
 
 pub card_made : (c : List ℕ) (l f g : ℕ) → f ≡ position_in (get_or c (FIRST + l) 0) → g ≡ position_in (get_or c (LAST + l) 0)
     → ◌≡◌ {A = Card}
@@ -61,12 +42,6 @@ wipe_all k c d e f = rw (ne_eqb k 0 e) f
 
 pub wipe_room : (k : ℕ) (c : List ℕ) → Tables c k → k ≢ 0 → TALLY_CELLS ≤ length c
 wipe_room k c t e = let room = t.room (omega arith) in omega arith
-
-pub few_asked : (records number met : ℕ) → records < LOCATIONS → number ≡ met → eqb number 0 ≡ (ltb records LOCATIONS && eqb met 0)
-few_asked records number met l e = rw (lt-ltb records LOCATIONS l, e)
-
-pub few_enough : (records met : ℕ) → LOCATIONS ≤ records → false ≡ (ltb records LOCATIONS && eqb met 0)
-few_enough records met l = rw (le-ltb records LOCATIONS l)
 
 pub count_fits : {c : List ℕ} {kind l at counts r : ℕ} → Touchable c kind l at → counts ≡ counts_of kind → r ≡ get_or c (counts + l) 0 → r < MAX_EVENTS
 count_fits {c} {kind} {l} t e f = let few = t.few in let same = f ∙ ap (λ (z : ℕ). get_or c (z + l) 0) e in omega arith

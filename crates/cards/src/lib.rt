@@ -3,16 +3,17 @@
 // `capi` takes the records themselves. All branches are here, where the number of records stands for them.
 #![tactic(auto)]
 
-ghost use Rattle.std.specs.Prelude.{◌≡◌, true, ◌&&◌, ◌+◌, ◌<◌, ◌≤◌, eqb, ltb, length};
+ghost use Rattle.std.specs.Prelude.{◌≡◌, ◌↔◌, true, ◌+◌, ◌<◌, ◌≤◌, length};
 ghost use Rattle.trace.specs.Trace.{is_access, LOCATIONS, MAX_EVENTS};
-ghost use Rattle.trace.specs.Outcome.{sizes, order_room};
-ghost use Rattle.sizes.specs.Rows.{row_of};
+ghost use Rattle.trace.specs.Line.{fails};
 ghost use Rattle.told.specs.Codes.{judge_seen};
-ghost use Rattle.cards.specs.Cards.{judged_with};
+ghost use Rattle.cards.specs.Cards.{card_sizes, judged_with};
 ghost use Rattle.cards.specs.Tally.{counts_of, TALLY_CELLS, earlier, touched_in, Touchable, Tallied, untasked, Tallyable, Counted};
 ghost use Rattle.cards.specs.Tally.{position_in, card_in, due_after, Tables, wiped};
 
-// What is known of one location.
+use trace::{Row, Trace};
+
+// What is known of one location: a record in C's memory.
 #[repr(C)]
 #[derive(Clone, Copy)]
 pub struct Card {
@@ -25,7 +26,7 @@ pub struct Card {
 
 const LOCATIONS: usize = trace::LOCATIONS as usize;
 
-// For each location one more than the first position that touched it, and than the last; 0 where there is none.
+// For each location one more than the first position that touched it, and than the last; 0 where there is none, since the cells are 16 bits that C lends.
 const FIRST: usize = 0;
 
 const LAST: usize = 1024;
@@ -43,12 +44,10 @@ const TALLY_CELLS: usize = 5120;
 // "65,535 for both where none did"
 const NOWHERE: u16 = 65535;
 
-// "16, fewer than 1,024 records"
-const FEW_RECORDS: u64 = 16;
-
 // ---- the tally
 
 // The table that an access is counted in.
+#[tactic(auto, using(kinds::proofs::ByNumber::index_few))]
 fn counts_of(kind: u8) -> usize
     requires { is_access kind ≡ true }
     ensures { (result ≡ counts_of kind) × (result + LOCATIONS ≤ TALLY_CELLS) }
@@ -57,6 +56,7 @@ fn counts_of(kind: u8) -> usize
 }
 
 // The cell of the first position after an access at `at`.
+#[tactic(auto, unfolding(crate::specs::Tally::earlier))]
 fn earlier(old: u16, at: u16) -> u16
     requires { at < MAX_EVENTS }
     ensures { result ≡ earlier old at }
@@ -80,37 +80,25 @@ fn tally(kinds: &[u8], operands: &[u16], ws: &mut [u16])
     requires { Tallyable kinds.now operands.now ws.old }
     ensures { Tallied (untasked kinds.now operands.now) (length kinds.now) ws.old ws.new }
 {
-    let mut i = 0;
-    while i < kinds.len() {
-        if kinds::is_access(kinds[i]) {
-            touch(ws, kinds[i], operands[i], i as u16);
+    for (i, kind) in kinds.iter().enumerate() {
+        if kinds::is_access(*kind) {
+            touch(ws, *kind, operands[i], i as u16);
         }
-        i += 1;
     }
 }
 
 // ---- the judge
 
 // Whether row 16 is met: "a size check tested after 4".
-fn has_few(
-    kinds: &[u8],
-    tasks: &[u16],
-    operands: &[u16],
-    ws: &[u16],
-    first: &[u16],
-    second: &[u16],
-    records: usize,
-) -> bool
-    ensures { result ≡ (ltb records LOCATIONS && eqb (row_of (order_room first.now second.now
-        (sizes kinds.now tasks.now operands.now ws.now))) 0) }
+fn has_few(trace: Trace, ws: &[u16], first: &[u16], second: &[u16], records: usize) -> bool
+    ensures { (result ≡ true) ↔ (card_sizes trace.entry.kinds.now trace.entry.tasks.now trace.entry.operands.now
+        ws.now first.now second.now records ≡ fails 16) }
 {
-    if records < LOCATIONS {
-        return sizes::buffer_row(kinds, tasks, operands, ws, first, second) == 0;
-    }
-    false
+    records < LOCATIONS
+        && sizes::check_buffers(trace.kinds, trace.tasks, trace.operands, ws, first, second).is_ok()
 }
 
-// The judge for a caller who lends so many records. After clean the tables hold the cards.
+// The judge for a caller who lends so many records: the code and the values that C is told. After clean the tables hold the cards.
 pub fn judge_counted(
     kinds: &[u8],
     tasks: &[u16],
@@ -125,8 +113,13 @@ pub fn judge_counted(
         (judged_with kinds.now tasks.now operands.now ws.old first.old second.old records)
         (judge_seen result values.new ws.new first.new second.new) }
 {
-    if has_few(kinds, tasks, operands, ws, first, second, records) {
-        *values = [FEW_RECORDS, 0, 0];
+    let trace = Trace {
+        kinds,
+        tasks,
+        operands,
+    };
+    if has_few(trace, ws, first, second, records) {
+        *values = [Row::FewRecords.number() as u64, 0, 0];
         return told::REFUSED;
     }
     let code = told::judge(kinds, tasks, operands, ws, first, second, values);
@@ -138,7 +131,8 @@ pub fn judge_counted(
 
 // ---- the cards
 
-// How many cards are due after a code.
+// How many cards are due after a code, which is what C is told.
+#[tactic(auto, unfolding(crate::specs::Tally::due_after))]
 pub fn due(code: u64) -> usize
     ensures { result ≡ due_after code }
 {
@@ -146,10 +140,11 @@ pub fn due(code: u64) -> usize
 }
 
 // A position off its cell.
+#[tactic(auto, unfolding(crate::specs::Tally::position_in))]
 fn position_in(cell: u16) -> u16
     ensures { result ≡ position_in cell }
 {
-    if cell == 0 { NOWHERE } else { cell - 1 }
+    cell.checked_sub(1).unwrap_or(NOWHERE)
 }
 
 // The card of a location, off the tables.

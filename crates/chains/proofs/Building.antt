@@ -95,30 +95,29 @@ joins_over {tr} {c} = kept_over (is_stop tr) (λ n. JoinsAt tr n c) (λ p e at. 
 
 -- ---- the loop
 
--- Before each turn the cells hold the table before the event that follows the last stop that was taken; k were.
-pub record Building (tr : Trace) (events : ℕ) (entry c : List ℕ) (k : ℕ) : Type 0 where
+-- Before each turn the cells hold the table before the event that follows the last stop that was taken; k were. `before` is the cells when the call began.
+pub record Building (tr : Trace) (events : ℕ) (before c : List ℕ) (k : ℕ) : Type 0 where
   pub position : ℕ
   pub within : position ≤ events
   pub counted : stops_before (is_stop tr) position ≡ k
   pub joins_at : JoinsAt tr position c
-  pub rest : SameFrom FOREST_CELLS entry c
+  pub rest : SameFrom FOREST_CELLS before c
 
 module _ (before c : List ℕ) (room : FOREST_CELLS ≤ length before) (e : c ≡ zeroed FOREST_CELLS before) where
-  pub build_cleared : SameFrom FOREST_CELLS before c
-  build_cleared =
-      record { long = rw e (zeroed_length FOREST_CELLS before room); same = λ i l. rw e (zeroed_beyond FOREST_CELLS before i l) }
+  cleared : SameFrom FOREST_CELLS before c
+  cleared = record { long = rw e (zeroed_length FOREST_CELLS before room); same = λ i l. rw e (zeroed_beyond FOREST_CELLS before i l) }
 
-  pub build_begin : (tr : Trace) (events : ℕ) → Building tr events c c 0
+  pub build_begin : (tr : Trace) (events : ℕ) → Building tr events before c 0
   unfolding stops_before joins_after
   build_begin tr events =
       let zeros : (i : ℕ) → i < FOREST_CELLS → get_or c i 0 ≡ 0 = λ i l. rw e (zeroed_below FOREST_CELLS before i l) in
-      let fits : FOREST_CELLS ≤ length c = omega (arith, build_cleared.long) in
+      let fits : FOREST_CELLS ≤ length c = omega (arith, cleared.long) in
       record {
         position = 0;
         within = omega arith;
         counted = refl;
         joins_at = record { forest_in = forest_start c fits zeros; table = same_start c fits zeros };
-        rest = same_from_refl FOREST_CELLS c;
+        rest = cleared;
       }
 
 -- The next stop i: the cells hold the table before it, and after the last event if it is past them.
@@ -128,12 +127,24 @@ pub record AtStop (tr : Trace) (n events : ℕ) (c : List ℕ) (k i : ℕ) : Typ
   pub joins_at : JoinsAt tr i c
   pub joins_end : events ≤ i → JoinsAt tr events c
 
-module _ {tr : Trace} {n events : ℕ} {before entry c : List ℕ} {k count : ℕ} (first : SameFrom FOREST_CELLS before entry) (stops : StopsIn tr n before count)
-    (le : events ≤ n) (kept : KeepsRules halt_operand tr events) (w : Building tr events entry c k) where
-  pub build_stop : k < count → (i : ℕ) → i ≡ number_in c k → AtStop tr n events c k i
-  build_stop h i read =
+module _ {tr : Trace} {events : ℕ} {entry c : List ℕ} {k : ℕ} (w : Building tr events entry c k) where
+  pub build_finish : KeepsRules halt_operand tr events → JoinsAt tr events c → Taken tr events entry c
+  build_finish kept at = record { joins_at = at; bound = bounded kept; rest = w.rest }
+
+  pub build_turn : {n i : ℕ} → AtStop tr n events c k i → i < events → {exit : List ℕ} → Taken tr (suc i) c exit → Building tr events entry exit (k + 1)
+  build_turn {i = i} at inside taken =
+      record {
+        position = suc i;
+        within = inside;
+        counted = at.one_more ∙ sym (add-one k);
+        joins_at = taken.joins_at;
+        rest = same_from_trans w.rest taken.rest;
+      }
+
+  pub build_stop : {n count : ℕ} → StopsIn tr n entry count → k < count → (i : ℕ) → i ≡ number_in c k → AtStop tr n events c k i
+  build_stop stops h i read =
       let within = w.within in
-      let s = stop_read (stops_still (same_beyond (omega arith) (same_from_trans first w.rest)) stops) w.counted h i read in
+      let s = stop_read (stops_still (same_beyond (omega arith) w.rest) stops) w.counted h i read in
       record {
         inside = s.below;
         one_more = s.one_more ∙ ap suc w.counted;
@@ -141,29 +152,17 @@ module _ {tr : Trace} {n events : ℕ} {before entry c : List ℕ} {k count : �
         joins_end = λ l. joins_over events within w.joins_at (λ q low high. s.quiet q low (omega arith));
       }
 
-  pub build_finish : JoinsAt tr events c → Taken tr events before c
-  build_finish at = record { joins_at = at; bound = bounded kept; rest = same_from_trans first w.rest }
-
   -- No stop is left.
-  pub build_end : count ≤ k → Taken tr events before c
-  build_end h =
+  pub build_end :
+      {before : List ℕ} {n count : ℕ} → SameFrom FOREST_CELLS before entry → StopsIn tr n before count → events ≤ n → KeepsRules halt_operand tr events → count ≤ k
+      → Taken tr events before c
+  build_end {n = n} first stops le kept h =
       let all = stops.counted in
       let now = w.counted in
       let rises = stops_grow (is_stop tr) w.position events w.within in
       let more = stops_grow (is_stop tr) events n le in
       let left = no_stop_left (is_stop tr) w.position events (omega arith) in
-      build_finish (joins_over events w.within w.joins_at left)
-
-  module _ {i : ℕ} (at : AtStop tr n events c k i) (inside : i < events) where
-    pub build_turn : {exit : List ℕ} → Taken tr (suc i) c exit → Building tr events entry exit (k + 1)
-    build_turn taken =
-        record {
-          position = suc i;
-          within = inside;
-          counted = at.one_more ∙ sym (add-one k);
-          joins_at = taken.joins_at;
-          rest = same_from_trans w.rest taken.rest;
-        }
+      record { joins_at = joins_over events w.within w.joins_at left; bound = bounded kept; rest = same_from_trans first w.rest }
 
 -- ---- the largest number of links
 

@@ -2,62 +2,54 @@
 // the events that were looked at.
 #![tactic(auto)]
 
-ghost use Rattle.std.specs.Prelude.{◌≡◌, ◌≤◌, ◌<◌, suc, length};
-ghost use Rattle.trace.specs.Lent.{lent_trace};
+ghost use Rattle.std.specs.Prelude.{◌≤◌, suc, length};
+ghost use Rattle.trace.specs.Held.{held_trace, HasEvent};
 ghost use Rattle.trace.specs.Line.{halt_operand};
 ghost use Rattle.trace.specs.Demands.{KeepsRules};
-ghost use Rattle.trace.proofs.Sizes.{Sized};
+ghost use Rattle.trace.proofs.Sizes.{SizedTrace};
 ghost use Rattle.stops.specs.Stops.{StopsIn};
 ghost use Rattle.chains.specs.Tables.{JoinsAt, Taken, LinksSay};
 
 use forest::FOREST_CELLS;
-use trace::JOIN;
+use trace::{JOIN, Trace};
 
 // Event i, if it is a join.
-fn take(kinds: &[u8], tasks: &[u16], operands: &[u16], ws: &mut [u16], i: usize)
-    requires i_in_bounds { (i < length kinds.now) × (length tasks.now ≡ length kinds.now) × (length operands.now ≡ length kinds.now) }
-    requires keeps_rules { KeepsRules halt_operand (lent_trace kinds tasks operands) (suc i) }
-    requires joins_at { JoinsAt (lent_trace kinds tasks operands) i ws.old }
-    ensures { Taken (lent_trace kinds.entry tasks.entry operands.entry) (suc i) ws.old ws.new }
+fn take(trace: Trace, ws: &mut [u16], i: usize)
+    requires i_in_bounds { HasEvent trace i }
+    requires keeps_rules { KeepsRules halt_operand (held_trace trace) (suc i) }
+    requires joins_at { JoinsAt (held_trace trace) i ws.old }
+    ensures { Taken (held_trace trace.entry) (suc i) ws.old ws.new }
 {
-    if kinds[i] == JOIN {
-        forest::join(ws, tasks[i], operands[i]);
+    let event = trace.event(i);
+    if event.kind == JOIN {
+        forest::join(ws, event.task, event.operand);
     }
 }
 
 // The table of joins after so many events. Every join is a stop, so only the stops are asked.
-fn build(kinds: &[u8], tasks: &[u16], operands: &[u16], ws: &mut [u16], stops: usize, events: usize)
-    requires sized { Sized kinds.now tasks.now operands.now ws.old (length kinds.now) }
-    requires stops_in { StopsIn (lent_trace kinds tasks operands) (length kinds.now) ws.old stops }
-    requires events_in_bounds { (events ≤ length kinds.now) × KeepsRules halt_operand (lent_trace kinds tasks operands) events }
-    ensures { Taken (lent_trace kinds.entry tasks.entry operands.entry) events ws.old ws.new }
+fn build(trace: Trace, ws: &mut [u16], stops: usize, events: usize)
+    requires sized { SizedTrace trace ws.old }
+    requires stops_in { StopsIn (held_trace trace) (length trace.kinds.now) ws.old stops }
+    requires events_in_bounds { (events ≤ length trace.kinds.now) × KeepsRules halt_operand (held_trace trace) events }
+    ensures { Taken (held_trace trace.entry) events ws.old ws.new }
 {
     cells::clear(ws, FOREST_CELLS);
-    let mut k = 0;
-    while k < stops {
+    for k in 0..stops {
         let i = stops::position(ws, k);
         if events <= i {
             return;
         }
-        take(kinds, tasks, operands, ws, i);
-        k += 1;
+        take(trace, ws, i);
     }
 }
 
 // The largest number of links between a task and its top, in the table of joins after so many events.
-pub fn longest(
-    kinds: &[u8],
-    tasks: &[u16],
-    operands: &[u16],
-    ws: &mut [u16],
-    stops: usize,
-    events: usize,
-) -> usize
-    requires sized { Sized kinds.now tasks.now operands.now ws.old (length kinds.now) }
-    requires stops_in { StopsIn (lent_trace kinds tasks operands) (length kinds.now) ws.old stops }
-    requires events_in_bounds { (events ≤ length kinds.now) × KeepsRules halt_operand (lent_trace kinds tasks operands) events }
-    ensures { LinksSay (lent_trace kinds.entry tasks.entry operands.entry) events ws.old ws.new result }
+pub fn longest(trace: Trace, ws: &mut [u16], stops: usize, events: usize) -> usize
+    requires sized { SizedTrace trace ws.old }
+    requires stops_in { StopsIn (held_trace trace) (length trace.kinds.now) ws.old stops }
+    requires events_in_bounds { (events ≤ length trace.kinds.now) × KeepsRules halt_operand (held_trace trace) events }
+    ensures { LinksSay (held_trace trace.entry) events ws.old ws.new result }
 {
-    build(kinds, tasks, operands, ws, stops, events);
+    build(trace, ws, stops, events);
     forest::most_links(ws) as usize
 }

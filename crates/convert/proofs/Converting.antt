@@ -22,6 +22,8 @@ use Rattle.cells.proofs.Rests.{rest_refl, rest_trans}
 use Rattle.line.specs.declared.Line.{Line}
 use Rattle.line.specs.Rules.{rule_of}
 use Rattle.line.specs.Cells.{resumed_in, depths, started_in}
+use Rattle.std.specs.Prelude.{Result, Ok, Err}
+use Rattle.trace.specs.declared.Row.{Row}
 use Rattle.line.specs.Steps.{after_in, rowed, event_in, Movable}
 use Rattle.line.specs.Held.{LineAt, Sound}
 use Rattle.line.proofs.Moves.{resumed_is, start_length, start_free, free_beyond}
@@ -140,34 +142,34 @@ module _ (kinds tasks operands entry : List ℕ) where
     chosen (inr h) = inr (h.0, h.1 ∙ own_read)
 
     -- It is held to the rules with that.
-    module _ (value : ℕ) (read : Read value) (row : ℕ) (exit : List ℕ)
-        (said : rowed (after_in line (rule_of (get_or kinds i 0))) row exit ≡ event_in c line (get_or kinds i 0) (get_or tasks i 0) value) where
+    module _ (value : ℕ) (read : Read value) (result : Result (Unit {0}) Row) (exit : List ℕ)
+        (said : rowed (after_in line (rule_of (get_or kinds i 0))) result exit ≡ event_in c line (get_or kinds i 0) (get_or tasks i 0) value) where
       abbrev next : Line
       next = after_in line (rule_of (get_or kinds i 0))
 
       given : Given halt_operand_before tr i value
       given = given_chosen w.at value (chosen read)
 
-      taken : rowed next row exit ≡ event_in c line (tr.kind i) (tr.task i) value
+      taken : rowed next result exit ≡ event_in c line (tr.kind i) (tr.task i) value
       unfolding trace_of
       taken = said
 
       still_beyond : SameBeyond entry exit
-      still_beyond = rest_trans w.beyond (free_beyond (event_free w.at given next row exit taken))
+      still_beyond = rest_trans w.beyond (free_beyond (event_free w.at given next result exit taken))
 
       -- An event that meets a row stops the conversion too.
-      pub stops_broken : row ≢ 0 → HaltsAreSet kinds tasks operands entry o exit
-      stops_broken met =
-          let b = event_broken w.at given next row exit taken met in
+      pub stops_broken : (row : Row) → result ≡ Err row → HaltsAreSet kinds tasks operands entry o exit
+      stops_broken row met =
+          let b = event_broken w.at given next result exit taken met in
           let broken = line_more halt_operand_before tr i b.line b.kept_before ∙ b.broken in
           record { set = set_broken w more broken; beyond = still_beyond }
 
       pub long_exit : length exit ≡ length entry
       long_exit = still_beyond.long
 
-      pub can_move : row ≡ 0 → Movable line (get_or kinds i 0)
+      pub can_move : result ≡ Ok tt → Movable line (get_or kinds i 0)
       unfolding trace_of
-      can_move none = event_movable w.at given next row exit taken none
+      can_move none = event_movable w.at given next result exit taken none
 
       -- What event i gets is what the conversion is to set there,
       value_at : Chosen w.at value → value ≡ operand_at tr (suc i) i
@@ -185,14 +187,14 @@ module _ (kinds tasks operands entry : List ℕ) where
           either (lt_or_le p i) (λ l. rw (lt-ltb p i l, lt-ltb p (suc i) (omega arith)))
           (λ l. rw (le-ltb p i l, le-ltb p (suc i) (omega arith)))
 
-      pub converting_more : length operands ≡ length kinds → row ≡ 0 → (after : Line) → after ≡ next → Converting (set o i value) exit after (i + 1)
+      pub converting_more : length operands ≡ length kinds → result ≡ Ok tt → (after : Line) → after ≡ next → Converting (set o i value) exit after (i + 1)
       converting_more whole none after e =
           let long = w.set.long in
           let one : i + 1 ≡ suc i = omega arith in
           rw one
           (record {
             fit = more;
-            at = rw e (event_next w.at given next row exit taken none);
+            at = rw e (event_next w.at given next result exit taken none);
             set =
                 record {
                   long = length-set o i value ∙ long;

@@ -1,13 +1,12 @@
 -- The conversion of stored traces (document 02, K6): what it answers and leaves in the operands and in the workspace, as a total function of what is lent.
 -- Assumes nothing.
-use Rattle.std.specs.Prelude.{ℕ, cond, ◌&&◌, List, map, eqb, ltb}
+use Rattle.std.specs.Prelude.{ℕ, cond, ◌&&◌, List, map, eqb, ltb, Result, Ok, Err}
 use Rattle.trace.specs.Trace.{Trace, trace_of, HALT}
 use Rattle.trace.specs.Line.{Line, Checked, passes, fails, halt_operand, halt_operand_before, line_after}
 use Rattle.trace.specs.Graph.{graph_events}
 use Rattle.trace.specs.Orders.{positions}
 use Rattle.trace.specs.Outcome.{Reply, says, refused, sizes, cleared}
-use Rattle.convert.specs.declared.Conversion.{Conversion}
-use Rattle.convert.specs.declared.Conversion.TheVariants.{Converted, Refused}
+use Rattle.trace.specs.declared.Refusal.{Refusal}
 
 -- The operand that a halt gets where this is the line before it: "A halt's operand now names the task that resumes". Where a rule is broken nobody asks.
 unfoldable pub named_after : Checked Line → ℕ
@@ -31,9 +30,9 @@ module _ (tr : Trace) where
 pub data Done : Type 0 where
   done : Done
 
-unfoldable pub conversion_reply : Conversion → Reply Done
-conversion_reply Converted = says done
-conversion_reply (Refused r) = refused r.number r.position
+unfoldable pub conversion_reply : Result (Unit {0}) Refusal → Reply Done
+conversion_reply (Ok converted) = says done
+conversion_reply (Err r) = refused r.number r.position
 
 -- What it answers, and what it leaves in the operands and in the workspace.
 pub record ConvertOutcome : Type 0 where
@@ -41,7 +40,7 @@ pub record ConvertOutcome : Type 0 where
   pub operands : List ℕ
   pub workspace : List ℕ
 
-abbrev pub convert_gives : Conversion → List ℕ → List ℕ → ConvertOutcome
+abbrev pub convert_gives : Result (Unit {0}) Refusal → List ℕ → List ℕ → ConvertOutcome
 convert_gives r operands workspace = record { answer = conversion_reply r; operands = operands; workspace = workspace }
 
 module _ (kinds tasks operands workspace : List ℕ) where

@@ -10,14 +10,7 @@ ghost use Rattle.convert.specs.States.{HaltsAreSet};
 
 use line::Line;
 use sizes::WORKSPACE_CELLS;
-use trace::{HALT, Refusal};
-
-// What the conversion answers.
-#[derive(Clone, Copy)]
-pub enum Conversion {
-    Converted,
-    Refused(Refusal),
-}
+use trace::{Event, HALT, Refusal};
 
 // Sets the halts up to the first event that breaks a rule. A halt is held to row 12 as it was, that its operand is 0, and then to the rules with the operand that
 // it gets. The event that breaks a rule is left as it is.
@@ -26,28 +19,35 @@ fn set_halts(kinds: &[u8], tasks: &[u16], operands: &mut [u16], ws: &mut [u16])
     ensures { HaltsAreSet kinds.now tasks.now operands.old ws.old operands.new ws.new }
 {
     let mut line = Line::start(ws);
-    let mut i = 0;
-    while i < kinds.len() {
+    for i in 0..kinds.len() {
         let kind = kinds[i];
         let mut operand = operands[i];
         if kind == HALT {
             if operand != 0 {
                 return;
             }
-            operand = line::resumes(ws, line);
+            operand = line.resumes(ws);
         }
-        let row = line::event(ws, line, kind, tasks[i], operand);
-        if row != 0 {
+        let event = Event {
+            kind,
+            task: tasks[i],
+            operand,
+        };
+        if line.admit(ws, event).is_err() {
             return;
         }
         operands[i] = operand;
-        line = line::after(line, kind);
-        i += 1;
+        line = line.after(kind);
     }
 }
 
 // THE CONVERSION.
-pub fn convert(kinds: &[u8], tasks: &[u16], operands: &mut [u16], ws: &mut [u16]) -> Conversion
+pub fn convert(
+    kinds: &[u8],
+    tasks: &[u16],
+    operands: &mut [u16],
+    ws: &mut [u16],
+) -> Result<(), Refusal>
     ensures outcome { convert_gives result operands.new ws.new
         ≡ convert_outcome kinds.now tasks.now operands.old ws.old }
     ensures demand1 { ConvertDemand1 kinds.now tasks.now operands.old ws.old
@@ -55,14 +55,8 @@ pub fn convert(kinds: &[u8], tasks: &[u16], operands: &mut [u16], ws: &mut [u16]
     ensures halts { ConvertSets kinds.now tasks.now operands.old ws.old operands.new }
     ensures verdict { SameVerdicts kinds.now tasks.now operands.old ws.old operands.new }
 {
-    let row = sizes::size_row(kinds, tasks, operands, ws);
-    if row != 0 {
-        return Conversion::Refused(Refusal {
-            number: row,
-            position: 0,
-        });
-    }
+    sizes::check_sizes(kinds, tasks, operands, ws)?;
     set_halts(kinds, tasks, operands, ws);
     cells::clear(ws, WORKSPACE_CELLS + kinds.len());
-    Conversion::Converted
+    Ok(())
 }

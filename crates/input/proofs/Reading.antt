@@ -1,6 +1,6 @@
 -- The laws behind the reads: the bytes that they gave stand at the start of the buffer, in order (`reads_held`), and one more read goes on or ends the reading
 -- as the promise says (`turned`). Assumes nothing.
-use Prim.Native.Nat.{ℕ, zero, suc, ◌+◌, ◌-◌, ◌≤◌, ◌<◌}
+use Prim.Native.Nat.{ℕ, zero, suc, ◌+◌, ◌≤◌, ◌<◌}
 use native.Mathlib.Omega.{arith}
 use mathlib.Core.Path.{◌≡◌, refl, sym, ap, subst, ◌∙◌}
 use mathlib.Core.Bool.{Bool, true, false, cond}
@@ -10,33 +10,11 @@ use lib.ListN.{length, take, drop, length-append, length-drop, take-append-drop}
 use lib.IntN.{ℤ, pos, negsuc}
 use lib.Seq.{length-take-le, take-append-add}
 use borrow.Author.Tests.{ltb-true, ltb-false}
-use borrow.Rule.Slice.PartMut.{mid_of, put_mid, mid_len, same_len_mid, take_put}
-use mir.Syntax.{w64}
-use mir.Val.{SFits}
-use mir.Facts.{to_z-of_z}
-use Rattle.input.specs.declared.Input.{Input}
-use Rattle.input.specs.declared.Input.TheVariants.{Bytes, Failed, Arguments}
-use Rattle.input.specs.declared.Step.{Step}
-use Rattle.input.specs.declared.Step.TheVariants.{Again, Ended}
-use Rattle.input.specs.Reading.{Moved, OneRead, decided, ReadOnce, Reads, none, more, full, ended, TextRead, Received}
-use Rattle.input.proofs.Deciding.{back}
-
--- ---- one read
-
--- `read` is lent the part of the buffer behind the first bytes, and the part comes back with its length.
-module _ (text part : List ℕ) (filled : ℕ) (got : ℤ) (room : filled ≤ length text) (fits : SFits w64 got)
-    (moved : Moved (length (mid_of filled (length text - filled) text)) got) where
-  pub part_moved : Moved (length text - filled) (back got)
-  part_moved = rw (to_z-of_z fits, ← mid_len filled (length text) text (omega arith)) moved
-
-  pub part_read : length part ≡ length (mid_of filled (length text - filled) text)
-      → OneRead filled text (put_mid filled (length text - filled) text part) (back got)
-  part_read long =
-      record {
-        moved = part_moved;
-        long = same_len_mid filled (length text - filled) text part long;
-        kept = take_put filled (length text - filled) text part room;
-      }
+use Rattle.std.specs.Prelude.{Result, Ok, Err}
+use Rattle.std.specs.declared.ops.ControlFlow.TheVariants.{Continue, Break}
+use Rattle.input.specs.declared.InputError.{InputError}
+use Rattle.input.specs.declared.InputError.TheVariants.{Failed, Arguments}
+use Rattle.input.specs.Reading.{OneRead, Turn, decided, ReadOnce, Reads, none, more, full, ended, TextRead, Received}
 
 -- ---- reads, one after the other
 
@@ -82,9 +60,9 @@ pub begun_within : (start text : List ℕ) (filled : ℕ) → Begun start text f
 begun_within start text filled begun = omega (arith, begun.counted, reads_within start text begun.bytes begun.reads)
 
 -- What a turn comes to, by what its read decides.
-abbrev pub Turned : List ℕ → List ℕ → ℕ → Step → Type 0
-Turned start after filled (Again total) = Begun start after total × (filled < total) × (total < length after)
-Turned start after filled (Ended input) = TextRead start after input
+abbrev pub Turned : List ℕ → List ℕ → ℕ → Turn → Type 0
+Turned start after filled (Continue total) = Begun start after total × (filled < total) × (total < length after)
+Turned start after filled (Break input) = TextRead start after input
 
 module _ (start before after : List ℕ) (filled : ℕ) (begun : Begun start before filled) where
   -- The read, behind the bytes themselves.
@@ -102,7 +80,7 @@ module _ (start before after : List ℕ) (filled : ℕ) (begun : Begun start bef
       }
 
   by_room : (n : ℕ) → OneRead filled before after (pos (suc n)) → (b : Bool) → ltb (filled + suc n) (length before) ≡ b
-      → Turned start after filled (cond b (Again (filled + suc n)) (Ended (Bytes (filled + suc n))))
+      → Turned start after filled (cond b (Continue (filled + suc n)) (Break (Ok (filled + suc n))))
   by_room n one true e = (more_bytes n one, omega arith, omega (arith, ltb-true (filled + suc n) (length before) e, one.long))
   by_room n one false e =
       let now = more_bytes n one in
@@ -131,19 +109,19 @@ module _ (start before after : List ℕ) (filled : ℕ) (begun : Begun start bef
       }
   turned_by (pos (suc n)) one = by_room n one (ltb (filled + suc n) (length before)) refl
 
-  pub turned : (step step' : Step) → ReadOnce filled before after step → step ≡ step' → Turned start after filled step'
+  pub turned : (step step' : Turn) → ReadOnce filled before after step → step ≡ step' → Turned start after filled step'
   turned step step' once e = rw (sym e ∙ once.decides) (turned_by once.got once.read)
 
 -- ---- what `Received` says of the words, and the row of `receive` with no arguments
 
 -- With arguments the buffer is as it was.
-pub received_arguments : (words : ℕ) (start after : List ℕ) (input : Input) → 1 < words → Received words start after input
-    → (input ≡ Arguments) × (after ≡ start)
-received_arguments words start after (Bytes count) h received = let few = received.0 in absurd (omega arith)
-received_arguments words start after Failed h received = let few = received.0 in absurd (omega arith)
-received_arguments words start after Arguments h received = (refl, received.1)
+pub received_arguments : (words : ℕ) (start after : List ℕ) (input : Result ℕ InputError) → 1 < words → Received words start after input
+    → (input ≡ Err Arguments) × (after ≡ start)
+received_arguments words start after (Ok count) h received = let few = received.0 in absurd (omega arith)
+received_arguments words start after (Err Failed) h received = let few = received.0 in absurd (omega arith)
+received_arguments words start after (Err Arguments) h received = (refl, received.1)
 
-pub received_alone : (words : ℕ) (start after : List ℕ) (input : Input) → words ≤ 1 → TextRead start after input → Received words start after input
-received_alone words start after (Bytes count) h read = (h, read)
-received_alone words start after Failed h read = (h, read)
-received_alone words start after Arguments h read = absurd read
+pub received_alone : (words : ℕ) (start after : List ℕ) (input : Result ℕ InputError) → words ≤ 1 → TextRead start after input → Received words start after input
+received_alone words start after (Ok count) h read = (h, read)
+received_alone words start after (Err Failed) h read = (h, read)
+received_alone words start after (Err Arguments) h read = absurd read

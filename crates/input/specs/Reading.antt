@@ -2,10 +2,11 @@
 -- there are some that give this buffer and this count. That they are the calls which the code makes no contract can say: it is trusted of the few lines that make
 -- them. What the number of a read decides is no matter of trust: `decided` is an equation. Assumes nothing.
 use Rattle.std.specs.Prelude.{ℕ, zero, suc, ◌+◌, ◌-◌, ◌≤◌, ◌<◌, ◌≡◌, cond, List, [], ◌++◌, ltb, length, take, drop, ℤ, pos, negsuc}
-use Rattle.input.specs.declared.Input.{Input}
-use Rattle.input.specs.declared.Input.TheVariants.{Bytes, Failed, Arguments}
-use Rattle.input.specs.declared.Step.{Step}
-use Rattle.input.specs.declared.Step.TheVariants.{Again, Ended}
+use Rattle.std.specs.Prelude.{Option, Some, None, Result, Ok, Err}
+use Rattle.std.specs.declared.ops.ControlFlow.{ControlFlow}
+use Rattle.std.specs.declared.ops.ControlFlow.TheVariants.{Continue, Break}
+use Rattle.input.specs.declared.InputError.{InputError}
+use Rattle.input.specs.declared.InputError.TheVariants.{Failed, Arguments}
 
 -- ---- one read
 
@@ -13,6 +14,11 @@ use Rattle.input.specs.declared.Step.TheVariants.{Again, Ended}
 abbrev pub Moved : ℕ → ℤ → Type 0
 Moved n (pos k) = k ≤ n
 Moved n (negsuc k) = k ≡ 0
+
+-- The number of a read, from what the code knows of it.
+abbrev pub number_of : Option ℕ → ℤ
+number_of (Some k) = pos k
+number_of None = negsuc 0
 
 -- One read into the bytes of a buffer behind the first `filled`: the number that it gave is -1, or at most as many as there was room for; the length and the
 -- first bytes stay.
@@ -53,28 +59,32 @@ pub record ReadFailed (start after : List ℕ) : Type 0 where
   pub last : OneRead (length bytes) before after (negsuc code)
 
 -- What was read of standard input, from the buffer at the start.
-abbrev pub TextRead : List ℕ → List ℕ → Input → Type 0
-TextRead start after (Bytes count) = AsRead start after count
-TextRead start after Failed = ReadFailed start after
-TextRead start after Arguments = ⊥
+abbrev pub TextRead : List ℕ → List ℕ → Result ℕ InputError → Type 0
+TextRead start after (Ok count) = AsRead start after count
+TextRead start after (Err Failed) = ReadFailed start after
+TextRead start after (Err Arguments) = ⊥
 
 -- WHAT A PROGRAM TAKES IN that was started with `words` words, its own name among them. It takes no arguments: with any, nothing is read.
-abbrev pub Received : ℕ → List ℕ → List ℕ → Input → Type 0
-Received words start after (Bytes count) = (words ≤ 1) × AsRead start after count
-Received words start after Failed = (words ≤ 1) × ReadFailed start after
-Received words start after Arguments = (1 < words) × (after ≡ start)
+abbrev pub Received : ℕ → List ℕ → List ℕ → Result ℕ InputError → Type 0
+Received words start after (Ok count) = (words ≤ 1) × AsRead start after count
+Received words start after (Err Failed) = (words ≤ 1) × ReadFailed start after
+Received words start after (Err Arguments) = (1 < words) × (after ≡ start)
 
 -- ---- what the functions beneath promise; a reader need not believe it, since it is proved to come to the above
 
+-- What one read decides: to read again, with so many bytes filled, or that the reading has ended, and how.
+abbrev pub Turn : Type 0
+Turn = ControlFlow (Result ℕ InputError) ℕ
+
 -- What the number of one read decides, where the buffer has `room` bytes. Negative: the read failed. 0: the input has ended. Else so many more bytes are
 -- filled, and if these are all, nothing more is read.
-unfoldable pub decided : ℤ → ℕ → ℕ → Step
-decided (negsuc n) filled room = Ended Failed
-decided (pos zero) filled room = Ended (Bytes filled)
-decided (pos (suc n)) filled room = cond (ltb (filled + suc n) room) (Again (filled + suc n)) (Ended (Bytes (filled + suc n)))
+unfoldable pub decided : ℤ → ℕ → ℕ → Turn
+decided (negsuc n) filled room = Break (Err Failed)
+decided (pos zero) filled room = Break (Ok filled)
+decided (pos (suc n)) filled room = cond (ltb (filled + suc n) room) (Continue (filled + suc n)) (Break (Ok (filled + suc n)))
 
 -- One read, whatever its number, and what that decides.
-pub record ReadOnce (filled : ℕ) (before after : List ℕ) (step : Step) : Type 0 where
+pub record ReadOnce (filled : ℕ) (before after : List ℕ) (step : Turn) : Type 0 where
   pub got : ℤ
   pub read : OneRead filled before after got
   pub decides : step ≡ decided got filled (length before)

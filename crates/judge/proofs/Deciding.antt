@@ -2,14 +2,19 @@
 use Prim.Native.Nat.{ℕ, ◌+◌, ◌<◌, ◌≤◌}
 use mathlib.Core.Path.{◌≡◌, refl, sym, ap, ◌∙◌}
 use mathlib.Core.List.{List}
-use mathlib.Core.Logic.{inr, ◌≢◌}
+use mathlib.Core.Logic.{inr}
+use Rattle.std.specs.Prelude.{Option, Some, None}
+use Rattle.trace.specs.Rows.{row_number}
+use Rattle.trace.specs.declared.Row.{Row}
 use native.Mathlib.Omega.{arith}
 use lib.ListN.{length}
-use Rattle.trace.specs.Trace.{Trace, trace_of, MAX_EVENTS, WORKSPACE_CELLS}
+use Rattle.trace.specs.Trace.{Trace, trace_of}
+use Rattle.stops.specs.Stops.{StopsIn}
+use Rattle.stops.proofs.Standing.{stops_still}
 use Rattle.trace.specs.Graph.{graph_events}
 use Rattle.trace.specs.Line.{halt_operand}
 use Rattle.trace.specs.Joins.{longest_after}
-use Rattle.trace.specs.Outcome.{Reply, says, refused, Verdict, clean, race, looked_at, links_beside, first_order, second_order}
+use Rattle.trace.specs.Outcome.{says, refused, clean, race, looked_at, links_beside, first_order, second_order}
 use Rattle.trace.specs.Race.{Race}
 use Rattle.trace.specs.Demands.{KeepsRules, NoRaceBefore}
 use Rattle.trace.proofs.Lines.{graph_kept}
@@ -17,13 +22,11 @@ use Rattle.trace.proofs.Sizes.{Sized}
 use Rattle.trace.proofs.Demand2.{demand_2, judgement_clean}
 use Rattle.trace.proofs.Numbers.{Numbers, numbers_agree}
 use Rattle.cells.proofs.Rests.{same_from_higher, same_from_trans, same_beyond, sized_same}
-use Rattle.stops.specs.Stops.{StopsIn}
-use Rattle.stops.proofs.Standing.{stops_still}
 use Rattle.forest.specs.Forest.{FOREST_CELLS}
 use Rattle.forest.proofs.Joins.{longest_access}
 use Rattle.chains.specs.Tables.{LinksSay}
 use Rattle.chains.proofs.Building.{kept_earlier, bounded}
-use Rattle.cells.specs.Cells.{Rest, SameFrom, NUMBER, number_in}
+use Rattle.cells.specs.Cells.{Rest, SameFrom, number_in}
 use Rattle.segments.specs.Segments.{segment}
 use Rattle.ranks.specs.Lists.{NEXT}
 use Rattle.ranks.specs.States.{kinds_only, own_number, Spread, SegmentsIn, RankSays}
@@ -34,8 +37,12 @@ use Rattle.report.specs.Reports.{Partnered, ReportedIn, Reported}
 use Rattle.report.proofs.Reporting.{partnered, reported}
 use Rattle.judge.specs.Entry.{Decided}
 
-module _ {kinds tasks operands entry ordered : List ℕ} {events number : ℕ} (lent : Sized kinds tasks operands entry (length kinds))
-    (ranked : RankSays kinds (trace_of kinds tasks operands) (length kinds) entry ordered events number) where
+-- The links are those of so many events.
+pub links_at : {tr : Trace} {m t : ℕ} {entry exit : List ℕ} {links : ℕ} → m ≡ t → LinksSay tr m entry exit links → LinksSay tr t entry exit links
+links_at e said = rw e at said
+
+module _ {kinds tasks operands entry ordered : List ℕ} {events : ℕ} {broken : Option Row} (lent : Sized kinds tasks operands entry (length kinds))
+    (ranked : RankSays kinds (trace_of kinds tasks operands) (length kinds) entry ordered events broken) where
   abbrev tr : Trace
   tr = trace_of kinds tasks operands
 
@@ -85,9 +92,6 @@ module _ {kinds tasks operands entry ordered : List ℕ} {events number : ℕ} (
             zero = after.same (NEXT + 0) (omega arith) ∙ ready.zero;
           }
 
-      pub race_room : WORKSPACE_CELLS + events ≤ length linked
-      race_room = omega (arith, ranked.segments_in.within, lent.room, linked_rest.long)
-
       module _ (inside : t < events) {exit : List ℕ} (spread : Spread kinds events linked exit) where
         numbers_stand : Numbers tr events (number_in exit)
         numbers_stand =
@@ -97,17 +101,7 @@ module _ {kinds tasks operands entry ordered : List ℕ} {events number : ℕ} (
         raced : (p : ℕ) × (p < t) × Race tr events p t
         raced = race_at kinds tasks operands events (own_number kinds ordered) ranked.numbers t found inside
 
-        -- What `report` asks: lengths,
-        pub race_inside : (t < n) × (t < length operands) × (NUMBER + t < length exit) × (t < MAX_EVENTS)
-        race_inside =
-            let within = ranked.segments_in.within in (
-              omega arith,
-              omega (arith, lent.of_operands),
-              omega (arith, race_room, spread.long),
-              omega (arith, lent.few),
-            )
-
-        -- and a partner.
+        -- What `report` asks.
         pub race_partnered : Partnered kinds operands exit t
         race_partnered = partnered kinds tasks operands exit events t numbers_stand inside raced
 
@@ -136,22 +130,20 @@ module _ {kinds tasks operands entry ordered : List ℕ} {events number : ℕ} (
         no_race : NoRaceBefore tr (graph_events halt_operand tr n) events
         no_race = rw (← graph_is) (λ p q h i. none_before p q h (omega arith))
 
-        pub decided_refused : (reply : Reply Verdict) (beside : ℕ) → number ≢ 0 → (reply ≡ refused number events) × (beside ≡ 0)
-            → Decided tr n reply beside entry linked b₁ b₁ b₂ b₂
+        pub decided_refused : (row : Row) → broken ≡ Some row → Decided tr n (refused (row_number row) events) 0 entry linked b₁ b₁ b₂ b₂
         unfolding first_order second_order links_beside looked_at
-        decided_refused reply beside met e =
-            let b = ranked.rules.met met in
-            let is = ((demand_2 halt_operand tr n).refused_iff number events).1 (record { inside = b.0; breaks_first = b.1; no_race = no_race }) in
-            rw e.0 (record {
+        decided_refused row met =
+            let b = ranked.rules.met row met in
+            record {
               rest = linked_rest;
-              answer = sym is;
-              beside = e.1;
+              answer = sym (((demand_2 halt_operand tr n).refused_iff (row_number row) events).1 (record { inside = b.0; breaks_first = b.1; no_race = no_race }));
+              beside = refl;
               bound = λ m h. said.bound m (omega arith);
               first = refl;
               second = refl;
-            })
+            }
 
-        pub decided_clean : number ≡ 0 → Decided tr n (says clean) links entry linked b₁ b₁ b₂ b₂
+        pub decided_clean : broken ≡ None → Decided tr n (says clean) links entry linked b₁ b₁ b₂ b₂
         unfolding first_order second_order links_beside looked_at
         decided_clean none =
             let k = ranked.rules.none_met none in

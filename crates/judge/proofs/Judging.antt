@@ -1,12 +1,13 @@
 -- The judge's entry point: each answer meets the outcome and with it the demands. Assumes nothing.
 use Prim.Native.Nat.{ℕ, ◌+◌}
+use Rattle.std.specs.Prelude.{Result}
 use mathlib.Core.Path.{◌≡◌, sym, subst}
 use mathlib.Core.List.{List}
-use mathlib.Core.Logic.{◌≢◌}
 use lib.ListN.{length}
-use Rattle.trace.specs.declared.Answer.{Answer}
+use Rattle.trace.specs.declared.Refusal.{Refusal}
+use Rattle.trace.specs.declared.Verdict.{Verdict}
 use Rattle.trace.specs.Trace.{trace_of, WORKSPACE_CELLS}
-use Rattle.trace.specs.Line.{passes}
+use Rattle.trace.specs.Line.{passes, fails}
 use Rattle.trace.specs.Outcome.{refused, sizes, order_room, Outcome, judge_checked, judge_outcome}
 use Rattle.trace.specs.Answers.{judge_reply, judge_links}
 use Rattle.trace.specs.Demands.{JudgeDemand1, JudgeDemand2, JudgeDemand3, JudgeLinks}
@@ -16,11 +17,9 @@ use Rattle.trace.proofs.Demand3.{judge_demand_3}
 use Rattle.chains.proofs.Reported.{links_checked, judge_links_law}
 use Rattle.cells.specs.Cells.{zeroed}
 use Rattle.cells.proofs.Rests.{rest_cleared}
-use Rattle.sizes.specs.Rows.{row_of}
-use Rattle.sizes.proofs.Sizing.{buffers_fail, buffers_pass}
 use Rattle.judge.specs.Entry.{judge_gives, Decided}
 
-module _ (kinds tasks operands workspace first second : List ℕ) (r : Answer) (w a₁ a₂ : List ℕ) where
+module _ (kinds tasks operands workspace first second : List ℕ) (r : Result Verdict Refusal) (w a₁ a₂ : List ℕ) where
   -- Past the size checks: the answer, the order buffers, and the workspace cleared.
   examined_gives :
       (n : ℕ) (exit : List ℕ) → Decided (trace_of kinds tasks operands) n (judge_reply r) (judge_links r) workspace exit first a₁ second a₂
@@ -67,13 +66,14 @@ module _ (kinds tasks operands workspace first second : List ℕ) (r : Answer) (
         ),
       )
 
-  module _ (number : ℕ) (lent : number ≡ row_of (order_room first second (sizes kinds tasks operands workspace))) where
-    pub promised_sizes : number ≢ 0 → (judge_reply r ≡ refused number 0) × (judge_links r ≡ 0) → w ≡ workspace → a₁ ≡ first → a₂ ≡ second → Promised
-    unfolding judge_outcome judge_checked judge_gives
-    promised_sizes met e kept kept₁ kept₂ =
-        promised (rw (buffers_fail kinds tasks operands workspace first second number lent met, judge_checked) (cc (e.0, e.1, kept, kept₁, kept₂)))
+  pub promised_sizes :
+      (number : ℕ) → fails number ≡ order_room first second (sizes kinds tasks operands workspace)
+      → (judge_reply r ≡ refused number 0) × (judge_links r ≡ 0) → w ≡ workspace → a₁ ≡ first → a₂ ≡ second → Promised
+  unfolding judge_outcome judge_checked judge_gives
+  promised_sizes number met e kept kept₁ kept₂ = promised (rw (sym met, judge_checked) (cc (e.0, e.1, kept, kept₁, kept₂)))
 
-    pub promised_examined :
-        number ≡ 0 → judge_gives r w a₁ a₂ ≡ judge_checked kinds tasks operands workspace first second (passes (length kinds)) → Promised
-    unfolding judge_outcome
-    promised_examined none e = promised (rw (buffers_pass kinds tasks operands workspace first second number lent none) e)
+  pub promised_examined :
+      passes (length kinds) ≡ order_room first second (sizes kinds tasks operands workspace)
+      → judge_gives r w a₁ a₂ ≡ judge_checked kinds tasks operands workspace first second (passes (length kinds)) → Promised
+  unfolding judge_outcome
+  promised_examined lent e = promised (rw (sym lent) e)

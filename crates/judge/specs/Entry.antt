@@ -1,6 +1,7 @@
 -- What the judge answers, put beside the outcome of crate `trace`. Assumes nothing.
-use Rattle.std.specs.Prelude.{ℕ, ◌≡◌, List}
-use Rattle.trace.specs.declared.Answer.{Answer}
+use Rattle.std.specs.Prelude.{ℕ, ◌≡◌, List, Result}
+use Rattle.trace.specs.declared.Refusal.{Refusal}
+use Rattle.trace.specs.declared.Verdict as code
 use Rattle.trace.specs.Trace.{Trace}
 use Rattle.trace.specs.Graph.{graph_events}
 use Rattle.trace.specs.Line.{halt_operand}
@@ -10,7 +11,7 @@ use Rattle.cells.specs.Cells.{Rest}
 use Rattle.chains.specs.Tables.{Bounded}
 
 -- An answer of the judge and the links beside it, with the contents of the workspace and of both order buffers.
-unfoldable pub judge_gives : Answer → List ℕ → List ℕ → List ℕ → Outcome
+unfoldable pub judge_gives : Result code.Verdict Refusal → List ℕ → List ℕ → List ℕ → Outcome
 judge_gives r workspace first second = record { answer = judge_reply r; links = judge_links r; workspace = workspace; first = first; second = second }
 
 -- Past the size checks: the reply is the judgement of the n events, the links beside it, with their bound, and the order buffers are what it says. The cells that

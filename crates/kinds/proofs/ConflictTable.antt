@@ -1,21 +1,15 @@
 -- The table of conflicts by the indices of kinds: the entry for two of them is `conflicting`, whichever is named first. Assumes nothing.
-use Prim.Native.Nat.{ℕ, zero, suc, ◌<◌}
-use mathlib.Core.Path.{◌≡◌, refl, sym, ap, ◌∙◌}
+use Prim.Native.Nat.{ℕ}
+use mathlib.Core.Path.{◌≡◌, sym, ap, ◌∙◌}
 use mathlib.Core.Bool.{Bool, true, false}
-use mathlib.Core.List.{List, [], ◌∷◌, map}
-use native.Mathlib.Omega.{arith}
-use lib.ListN.{length, get_or}
+use mathlib.Core.List.{[], map}
+use lib.ListN.{get_or}
+use Rattle.std.proofs.lemmas.List.{get_or-map}
 use Rattle.trace.specs.Trace.{is_access}
 use Rattle.trace.specs.Race.{conflicting}
 use Rattle.trace.proofs.Conflicts.{access_kinds, conflict_table, table_rule, conflicting_sym}
 use Rattle.kinds.specs.Kinds.{index_of}
 use Rattle.kinds.proofs.ByNumber.{at_index, index_few}
-
--- An entry of a list that f makes.
-made_at : {A : Type 0} (f : ℕ → A) (xs : List ℕ) (i : ℕ) (d : A) → i < length xs → get_or (map f xs) i d ≡ f (get_or xs i 0)
-made_at f [] i d low = absurd (omega arith)
-made_at f (x ∷ xs) zero d low = refl
-made_at f (x ∷ xs) (suc i) d low = made_at f xs i d (omega arith)
 
 -- The entry for two kinds, as the code reads it.
 abbrev entry : ℕ → ℕ → Bool
@@ -24,8 +18,8 @@ entry j k = get_or (get_or conflict_table (index_of j) []) (index_of k) false
 pub entry_right : (j k : ℕ) → is_access j ≡ true → is_access k ≡ true → entry j k ≡ conflicting j k
 entry_right j k first second =
     ap (λ rows. get_or (get_or rows (index_of j) []) (index_of k) false) table_rule
-    ∙ ap (λ row. get_or row (index_of k) false) (made_at (λ i. map (conflicting i) access_kinds) access_kinds (index_of j) [] (index_few j first))
-    ∙ made_at (conflicting (get_or access_kinds (index_of j) 0)) access_kinds (index_of k) false (index_few k second)
+    ∙ ap (λ row. get_or row (index_of k) false) (get_or-map (λ i. map (conflicting i) access_kinds) access_kinds (index_of j) 0 [] (index_few j first))
+    ∙ get_or-map (conflicting (get_or access_kinds (index_of j) 0)) access_kinds (index_of k) 0 false (index_few k second)
     ∙ rw (at_index j first, at_index k second)
 
 pub entry_symmetric : (j k : ℕ) → is_access j ≡ true → is_access k ≡ true → entry j k ≡ entry k j

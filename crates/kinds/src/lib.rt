@@ -1,4 +1,5 @@
 // What the code asks of the kinds of events: which are accesses and which move the line, and which accesses of one location conflict.
+// A kind stays the byte that callers lend, which may be any; so that it is an access is a clause.
 #![tactic(auto)]
 
 ghost use Rattle.std.specs.Prelude.{◌≡◌, true, not};
@@ -9,6 +10,7 @@ ghost use Rattle.kinds.specs.Kinds.{index_of};
 use trace::{FORK, HALT, SUM};
 
 // An access: a read, a write or a sum. `|` asks both its sides: `||` would branch.
+#[tactic(auto, using(crate::proofs::ByNumber::access_by_number))]
 pub fn is_access(kind: u8) -> bool
     ensures { result ≡ is_access kind }
 {
@@ -16,6 +18,7 @@ pub fn is_access(kind: u8) -> bool
 }
 
 // Whether an event moves the line: a fork, a join or a halt. Where the kind is one that the documents name, that is quicker to ask than whether it is an access.
+#[tactic(auto, using(crate::proofs::ByNumber::move_by_number))]
 pub fn is_move(kind: u8) -> bool
     requires { is_kind kind ≡ true }
     ensures { result ≡ not (is_access kind) }
@@ -24,6 +27,7 @@ pub fn is_move(kind: u8) -> bool
 }
 
 // The accesses counted up from 0, for tables: a read, a write, a sum.
+#[tactic(auto, unfolding(crate::specs::Kinds::index_of))]
 pub fn index_of(kind: u8) -> usize
     requires { is_access kind ≡ true }
     ensures { result ≡ index_of kind }
@@ -45,6 +49,7 @@ const CONFLICT: [[bool; 3]; 3] = [
     [true, true, false],
 ];
 
+#[tactic(auto, using(crate::proofs::ByNumber::index_few))]
 pub fn is_conflict(kind: u8, other: u8) -> bool
     requires kind_value { is_access kind ≡ true }
     requires other_value { is_access other ≡ true }

@@ -1,38 +1,28 @@
--- The depths of the two stacks after an event, from what the code's tests for each kind leave. Assumes nothing.
+-- The depths of the two stacks after an event, by its kind. Assumes nothing.
 use Prim.Native.Nat.{ℕ, ◌+◌, ◌-◌}
 use mathlib.Core.Path.{◌≡◌, ap}
-use mathlib.Core.Logic.{◌⊎◌, ◌≢◌}
-use native.Mathlib.Omega.{arith}
+use mathlib.Core.Logic.{◌≢◌}
 use borrow.Author.Tests.{ne_eqb}
 use Rattle.trace.specs.Trace.{FORK, JOIN, HALT, is_access}
-use Rattle.trace.proofs.Tests.{by_test, either}
+use Rattle.trace.proofs.Tests.{by_test}
 use Rattle.line.specs.declared.Line.{Line}
 use Rattle.line.specs.Rules.{rule_of}
 use Rattle.line.specs.Cells.{depths}
 use Rattle.line.specs.Steps.{after_in}
 use Rattle.line.proofs.Rows.{rule_fork, rule_join, rule_halt}
 
--- After its tests for a fork and for a join:
-module _ (line : Line) (kind active left : ℕ) (forks : ((kind ≡ FORK) × (active ≡ line.active + 1)) ⊎ ((kind ≢ FORK) × (active ≡ line.active)))
-    (joins : ((kind ≡ JOIN) × (left ≡ line.left - 1)) ⊎ ((kind ≢ JOIN) × (left ≡ line.left))) where
-  -- At a halt they are as they were.
-  pub halt_active : kind ≡ HALT → active ≡ line.active
-  halt_active h = either forks (λ w. absurd (omega (arith, w.0))) (λ w. w.1)
+module _ (line : Line) (kind : ℕ) where
+  pub after_fork : kind ≡ FORK → depths (line.active + 1) line.left ≡ after_in line (rule_of kind)
+  after_fork e = ap (after_in line) (rule_fork kind e)
 
-  pub halt_left : kind ≡ HALT → left ≡ line.left
-  halt_left h = either joins (λ w. absurd (omega (arith, w.0))) (λ w. w.1)
+  pub after_join : kind ≡ JOIN → depths line.active (line.left - 1) ≡ after_in line (rule_of kind)
+  after_join e = ap (after_in line) (rule_join kind e)
 
-  pub after_halt : kind ≡ HALT → depths (active - 1) (left + 1) ≡ after_in line (rule_of kind)
-  after_halt h = rw (halt_active h, halt_left h) (ap (after_in line) (rule_halt kind h))
+  pub after_halt : kind ≡ HALT → depths (line.active - 1) (line.left + 1) ≡ after_in line (rule_of kind)
+  after_halt e = ap (after_in line) (rule_halt kind e)
 
-  pub after_other : kind ≢ HALT → depths active left ≡ after_in line (rule_of kind)
+  pub after_other : kind ≢ FORK → kind ≢ JOIN → kind ≢ HALT → line ≡ after_in line (rule_of kind)
   unfolding rule_of
-  after_other h =
-      either forks
-      (λ f.
-      either joins (λ j. absurd (omega (arith, f.0, j.0))) (λ j. rw (f.1, j.1) (ap (after_in line) (rule_fork kind f.0))))
-      (λ f.
-      either joins (λ j. rw (f.1, j.1) (ap (after_in line) (rule_join kind j.0)))
-      (λ j.
-      rw (f.1, j.1, ne_eqb kind FORK f.0, ne_eqb kind JOIN j.0, ne_eqb kind HALT h)
-      (by_test (is_access kind) (λ e. rw e) (λ e. rw e))))
+  after_other fork join halt =
+      rw (ne_eqb kind FORK fork, ne_eqb kind JOIN join, ne_eqb kind HALT halt)
+      (by_test (is_access kind) (λ e. rw e) (λ e. rw e))

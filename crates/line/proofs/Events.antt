@@ -4,17 +4,18 @@ use Prim.Native.Nat.{ℕ, suc, ◌<◌}
 use mathlib.Core.Path.{◌≡◌, refl, sym, ap, subst, ◌∙◌}
 use mathlib.Core.Bool.{Bool, true, false}
 use mathlib.Core.List.{List, ◌∷◌}
-use mathlib.Core.Logic.{◌≢◌}
 use native.Mathlib.Omega.{arith}
-use borrow.Author.Tests.{eqb-false, eq-eqb, ne_eqb, not-false}
+use borrow.Author.Tests.{eqb-false, not-false}
 use Rattle.trace.specs.Trace.{Trace, is_kind}
 use Rattle.trace.specs.Line.{Line as TraceLine, passes, fails, line_after}
 use Rattle.trace.specs.Demands.{KeepsRules, BreaksFirst}
-use Rattle.trace.proofs.Tests.{either, same_or_not}
 use Rattle.trace.proofs.Lines.{line_more, passes_not_fails}
 use Rattle.trace.proofs.Stacks.{updated}
 use Rattle.trace.proofs.Run.{Run, access, line_of}
 use Rattle.trace.proofs.TwoStacks.{line_of_law}
+use Rattle.std.specs.Prelude.{Result, Ok, Err}
+use Rattle.trace.specs.Rows.{row_number}
+use Rattle.trace.specs.declared.Row.{Row}
 use Rattle.line.specs.declared.Line.{Line}
 use Rattle.line.specs.Rules.{Join}
 use Rattle.line.specs.Cells.{running_in}
@@ -42,18 +43,18 @@ row_kept c number true s line e = absurd (passes_not_fails e refl)
 row_kept c number false s line e = (refl, e)
 
 module _ {rule : TraceLine → ℕ} {tr : Trace} {n : ℕ} {c : List ℕ} {line : Line} (at : LineAt rule tr n c line) {operand : ℕ} (given : Given rule tr n operand)
-    (next : Line) (row : ℕ) (exit : List ℕ) (said : rowed next row exit ≡ event_in c line (tr.kind n) (tr.task n) operand) where
+    (next : Line) (result : Result (Unit {0}) Row) (exit : List ℕ) (said : rowed next result exit ≡ event_in c line (tr.kind n) (tr.task n) operand) where
   -- The law of one event, of the step that the code took.
-  agrees : (s : Stepped) → s ≡ rowed next row exit → Agrees rule tr n c (line_after rule tr (suc n)) s.result s.cells
+  agrees : (s : Stepped) → s ≡ rowed next result exit → Agrees rule tr n c (line_after rule tr (suc n)) s.result s.cells
   agrees s e = rw (e ∙ said) (event_law at given)
 
-  module _ (some : row ≢ 0) where
-    met : (line_after rule tr (suc n) ≡ fails row) × (exit ≡ c)
+  module _ {row : Row} (some : result ≡ Err row) where
+    met : (line_after rule tr (suc n) ≡ fails (row_number row)) × (exit ≡ c)
     unfolding rowed
-    met = agrees (record { result = fails row; cells = exit }) (rw (ne_eqb row 0 some))
+    met = agrees (record { result = fails (row_number row); cells = exit }) (rw some)
 
     -- It breaks a rule, as the first, and no cell changes;
-    pub event_broken : BreaksFirst rule tr n row
+    pub event_broken : BreaksFirst rule tr n (row_number row)
     event_broken =
         let before = line_keeps at in
         record {
@@ -65,10 +66,10 @@ module _ {rule : TraceLine → ℕ} {tr : Trace} {n : ℕ} {c : List ℕ} {line 
     pub event_unchanged : exit ≡ c
     event_unchanged = met.1
 
-  module _ (none : row ≡ 0) where
-    step : goes next exit ≡ rowed next row exit
+  module _ (none : result ≡ Ok tt) where
+    step : goes next exit ≡ rowed next result exit
     unfolding rowed
-    step = rw (eq-eqb row 0 none)
+    step = rw none
 
     passed : (event_in c line (tr.kind n) (tr.task n) operand).result ≡ passes next
     passed = ap (λ (s : Stepped). s.result) (sym (step ∙ said))
@@ -108,9 +109,13 @@ module _ {rule : TraceLine → ℕ} {tr : Trace} {n : ℕ} {c : List ℕ} {line 
               omega arith;
         }
 
+  free_by : (r : Result (Unit {0}) Row) → result ≡ r → SameFree c exit
+  free_by (Ok done) none = (agrees (goes next exit) (step none)).free
+  free_by (Err row) some = free_eq c exit (event_unchanged some)
+
   -- NO CELL OUTSIDE THE LINE'S TABLES changes.
   pub event_free : SameFree c exit
-  event_free = either (same_or_not row 0) (λ none. (agrees (goes next exit) (step none)).free) (λ some. free_eq c exit (event_unchanged some))
+  event_free = free_by result refl
 
 -- ---- an access of the running task
 

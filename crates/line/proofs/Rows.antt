@@ -12,6 +12,9 @@ use borrow.Author.Tests.{lt-ltb, le-ltb, le-leb, lt-leb, eq-eqb, ne_eqb}
 use Rattle.trace.specs.Trace.{FORK, JOIN, SUM, LOCATIONS, is_kind, is_access}
 use Rattle.trace.proofs.Tests.{by_test}
 use Rattle.trace.proofs.EventKinds.{rest_is_halt}
+use Rattle.std.specs.Prelude.{Result, Ok, Err}
+use Rattle.trace.specs.Rows.{row_number}
+use Rattle.trace.specs.declared.Row.{Row}
 use Rattle.line.specs.declared.Line.{Line}
 use Rattle.line.specs.Rules.{Rule, Access, Fork, Join, Halt, Unknown, rule_of}
 use Rattle.line.specs.Cells.{ACTIVE, resumed_in, halted_in}
@@ -51,9 +54,10 @@ resumed_below c line task h e = rw (le-ltb line.active 2 h) e
 
 -- A row whose condition holds refuses.
 pub row_met :
-    (c : List ℕ) (line : Line) (number : ℕ) (b : Bool) (s : Stepped) → eqb number 0 ≡ false → b ≡ true → rowed line number c ≡ row_in c number b s
+    (c : List ℕ) (line : Line) (row : Row) (number : ℕ) (b : Bool) (s : Stepped) → row_number row ≡ number → b ≡ true
+    → rowed line (Err row) c ≡ row_in c number b s
 unfolding rowed row_in
-row_met c line number b s e f = rw (e, f)
+row_met c line row number b s e f = rw (f, ← e)
 
 -- Any other leads to what comes next;
 pub row_passed : (x : Stepped) (c : List ℕ) (number : ℕ) (b : Bool) (next : Stepped) → b ≡ false → x ≡ next → x ≡ row_in c number b next
@@ -61,43 +65,43 @@ unfolding row_in
 row_passed x c number b next e f = rw e f
 
 -- at the end, to the line and the cells that a move leaves.
-pub row_goes : (line : Line) (c d : List ℕ) → c ≡ d → rowed line 0 c ≡ goes line d
+pub row_goes : (line : Line) (c d : List ℕ) → c ≡ d → rowed line (Ok tt) c ≡ goes line d
 unfolding rowed
 row_goes line c d e = ap (goes line) e
 
 -- Row 12: the operand is held against the task that resumes.
 module _ (c : List ℕ) (line : Line) (operand parent : ℕ) (resumes : parent ≡ resumed_in c line) where
-  pub halt_met : operand ≢ parent → rowed (after_in line Halt) 12 c ≡ halt_in c line operand
+  pub halt_met : operand ≢ parent → rowed (after_in line Halt) (Err Row.NotResumed) c ≡ halt_in c line operand
   unfolding halt_in
-  halt_met h = row_met c (after_in line Halt) 12 _ _ refl (not_met _ (ne_eqb operand (resumed_in c line) (λ e. h (e ∙ sym resumes))))
+  halt_met h = row_met c (after_in line Halt) Row.NotResumed 12 _ _ refl (not_met _ (ne_eqb operand (resumed_in c line) (λ e. h (e ∙ sym resumes))))
 
-  pub halt_passed : (exit : List ℕ) → operand ≡ parent → exit ≡ halted_in c line → rowed (after_in line Halt) 0 exit ≡ halt_in c line operand
+  pub halt_passed : (exit : List ℕ) → operand ≡ parent → exit ≡ halted_in c line → rowed (after_in line Halt) (Ok tt) exit ≡ halt_in c line operand
   unfolding halt_in
   halt_passed exit h e =
       row_passed _ c 12 _ _ (not_passed _ (eq-eqb operand (resumed_in c line) (h ∙ resumes))) (row_goes (after_in line Halt) exit (halted_in c line) e)
 
 -- Row 8, which is told with no cells.
-pub location_met : (a : ℕ) → LOCATIONS ≤ a → 8 ≡ location_row a
+pub location_met : (a : ℕ) → LOCATIONS ≤ a → Err Row.UnknownLocation ≡ location_row a
 unfolding location_row
 location_met a h = rw (le-leb LOCATIONS a h)
 
-pub location_passed : (a : ℕ) → a < LOCATIONS → 0 ≡ location_row a
+pub location_passed : (a : ℕ) → a < LOCATIONS → Ok tt ≡ location_row a
 unfolding location_row
 location_passed a h = rw (lt-leb LOCATIONS a h)
 
-pub location_told : (c : List ℕ) (line : Line) (row a : ℕ) → row ≡ location_row a → rowed line row c ≡ location_in c line a
+pub location_told : (c : List ℕ) (line : Line) (result : Result (Unit {0}) Row) (a : ℕ) → result ≡ location_row a → rowed line result c ≡ location_in c line a
 unfolding rowed row_in location_row location_in
-location_told c line row a e = by_test (leb LOCATIONS a) (λ f. rw (e, f)) (λ f. rw (e, f))
+location_told c line result a e = by_test (leb LOCATIONS a) (λ f. rw (e, f)) (λ f. rw (e, f))
 
-pub unknown_told : (c : List ℕ) (line : Line) (a : ℕ) → rowed line 5 c ≡ act_in c line Unknown a
+pub unknown_told : (c : List ℕ) (line : Line) (a : ℕ) → rowed line (Err Row.UnknownKind) c ≡ act_in c line Unknown a
 unfolding rowed act_in
 unknown_told c line a = refl
 
 -- The row of the rule that the match over the kind chose.
 pub act_told :
-    (c exit : List ℕ) (line : Line) (row : ℕ) (r rule : Rule) (a : ℕ) → r ≡ rule → rowed (after_in line r) row exit ≡ act_in c line r a
-    → rowed (after_in line rule) row exit ≡ act_in c line rule a
-act_told c exit line row r rule a e f = rw e at f
+    (c exit : List ℕ) (line : Line) (result : Result (Unit {0}) Row) (r rule : Rule) (a : ℕ) → r ≡ rule → rowed (after_in line r) result exit ≡ act_in c line r a
+    → rowed (after_in line rule) result exit ≡ act_in c line rule a
+act_told c exit line result r rule a e f = rw e at f
 
 pub ruleset rows = (row_met, row_passed, row_goes, not_met, not_passed, le-leb, lt-leb, eq-eqb, ne_eqb, read_same, read_other, same_read, other_read)
 

@@ -1,7 +1,9 @@
 -- What one event does to the line in the cells: the rows of document 01 over the two stacks. Assumes nothing.
-use Rattle.std.specs.Prelude.{ℕ, ◌+◌, ◌-◌, ◌<◌, ◌≤◌, ◌≡◌, Bool, true, false, cond, not, List, eqb, leb}
+use Rattle.std.specs.Prelude.{ℕ, ◌+◌, ◌-◌, ◌<◌, ◌≤◌, ◌≡◌, Bool, true, false, cond, not, List, eqb, leb, Result, Ok, Err}
 use Rattle.trace.specs.Trace.{JOIN, HALT, LOCATIONS, TASKS, is_kind}
 use Rattle.trace.specs.Line.{Checked, passes, fails}
+use Rattle.trace.specs.Rows.{row_number}
+use Rattle.trace.specs.declared.Row.{Row}
 use Rattle.line.specs.declared.Line.{Line}
 use Rattle.line.specs.Rules.{Rule, Access, Fork, Join, Halt, Unknown, rule_of}
 use Rattle.line.specs.Cells.{depths, running_in, nearest_in, resumed_in, is_used_in, forked_in, halted_in}
@@ -14,9 +16,10 @@ pub record Stepped : Type 0 where
 abbrev pub goes : Line → List ℕ → Stepped
 goes line c = record { result = passes line; cells = c }
 
--- What the row that is met, or 0, and the cells at exit say: at 0 the line goes on to `next`.
-unfoldable pub rowed : Line → ℕ → List ℕ → Stepped
-rowed next number c = cond (eqb number 0) (goes next c) (record { result = fails number; cells = c })
+-- What the answer about an event and the cells at exit say: where no row is met, the line goes on to `next`.
+unfoldable pub rowed : Line → Result (Unit {0}) Row → List ℕ → Stepped
+rowed next (Ok none) c = goes next c
+rowed next (Err row) c = record { result = fails (row_number row); cells = c }
 
 -- The line after an event that keeps this rule.
 abbrev pub after_in : Line → Rule → Line
@@ -39,8 +42,8 @@ row_in c number true next = record { result = fails number; cells = c }
 row_in c number false next = next
 
 -- Row 8 has no cell to look at.
-unfoldable pub location_row : ℕ → ℕ
-location_row a = cond (leb LOCATIONS a) 8 0
+unfoldable pub location_row : ℕ → Result (Unit {0}) Row
+location_row a = cond (leb LOCATIONS a) (Err Row.UnknownLocation) (Ok tt)
 
 module _ (c : List ℕ) (line : Line) where
   unfoldable pub location_in : ℕ → Stepped

@@ -9,7 +9,7 @@ ghost use Rattle.line.specs.Cells.{depths, running_in, nearest_in, resumed_in, s
 ghost use Rattle.line.specs.Steps.{after_in, Movable, rowed, location_row, fork_in, join_in, halt_in, act_in, event_in};
 ghost use Rattle.line.specs.Held.{Sound};
 
-use trace::{FORK, HALT, JOIN, SUM};
+use trace::{Event, FORK, HALT, JOIN, Row, SUM};
 
 // 1 where the task's number has been used: the one table that is read before it is written.
 const USED: usize = 0;
@@ -22,7 +22,7 @@ const LEFT: usize = 7168;
 // The active tasks, the running one last.
 const ACTIVE: usize = 8192;
 
-// How many tasks are active, and how many have halted and are not joined yet.
+// How many tasks are active, and how many have halted and are not joined yet. The tasks stand in lent cells, so that these hold the line is a clause.
 #[derive(Clone, Copy)]
 pub struct Line {
     pub active: usize,
@@ -44,163 +44,163 @@ impl Line {
         cells::put(ws, ACTIVE, 0, 0);
         Line { active: 1, left: 0 }
     }
-}
 
-// The running task.
-fn running(ws: &[u16], line: Line) -> u16
-    requires sound { Sound ws.now line }
-    requires active_nonzero { 0 < line.active }
-    ensures { result ≡ running_in ws.now line }
-{
-    ws[ACTIVE + line.active - 1]
-}
+    // The running task.
+    fn running(self, ws: &[u16]) -> u16
+        requires sound { Sound ws.now self }
+        requires active_nonzero { 0 < self.active }
+        ensures { result ≡ running_in ws.now self }
+    {
+        ws[ACTIVE + self.active - 1]
+    }
 
-// The task at the left of the running one.
-fn nearest(ws: &[u16], line: Line) -> u16
-    requires sound { Sound ws.now line }
-    requires left_nonzero { 0 < line.left }
-    ensures { result ≡ nearest_in ws.now line }
-{
-    ws[LEFT + line.left - 1]
-}
+    // The task at the left of the running one.
+    fn nearest(self, ws: &[u16]) -> u16
+        requires sound { Sound ws.now self }
+        requires left_nonzero { 0 < self.left }
+        ensures { result ≡ nearest_in ws.now self }
+    {
+        ws[LEFT + self.left - 1]
+    }
 
-// The task that resumes where the running one halts: the one below it; where none is, as below task 0, it is 0.
-pub fn resumes(ws: &[u16], line: Line) -> u16
-    requires { Sound ws.now line }
-    ensures { result ≡ resumed_in ws.now line }
-{
-    if line.active < 2 {
-        return 0;
+    // The task that resumes where the running one halts: the one below it; where none is, as below task 0, it is 0.
+    pub fn resumes(self, ws: &[u16]) -> u16
+        requires { Sound ws.now self }
+        ensures { result ≡ resumed_in ws.now self }
+    {
+        if self.active < 2 {
+            return 0;
+        }
+        ws[ACTIVE + self.active - 2]
     }
-    ws[ACTIVE + line.active - 2]
-}
 
-// A fork: the child runs, and its parent stays below it.
-fn fork(ws: &mut [u16], line: Line, child: u16)
-    requires sound { Sound ws.old line }
-    requires child_bound { child < TASKS }
-    ensures { ws.new ≡ forked_in ws.old line child }
-{
-    ws[ACTIVE + line.active] = child;
-    cells::put(ws, USED, child, 1);
-}
+    // A fork: the child runs, and its parent stays below it.
+    fn fork(self, ws: &mut [u16], child: u16)
+        requires sound { Sound ws.old self }
+        requires child_bound { child < TASKS }
+        ensures { ws.new ≡ forked_in ws.old self child }
+    {
+        ws[ACTIVE + self.active] = child;
+        cells::put(ws, USED, child, 1);
+    }
 
-// A halt: the running task is now the nearest left of the one that resumes.
-fn halt(ws: &mut [u16], line: Line)
-    requires sound { Sound ws.old line }
-    requires active_nonzero { 0 < line.active }
-    ensures { ws.new ≡ halted_in ws.old line }
-{
-    let x = running(ws, line);
-    ws[LEFT + line.left] = x;
-}
+    // A halt: the running task is now the nearest left of the one that resumes.
+    fn halt(self, ws: &mut [u16])
+        requires sound { Sound ws.old self }
+        requires active_nonzero { 0 < self.active }
+        ensures { ws.new ≡ halted_in ws.old self }
+    {
+        let x = self.running(ws);
+        ws[LEFT + self.left] = x;
+    }
 
-// The functions below answer the row that is met, or 0: a plain number, which comes back in a register. A line that came back through memory, field by
-// field, would be waited for at every event.
+    // Row 8.
+    fn admit_location(location: u16) -> Result<(), Row>
+        ensures { result ≡ location_row location }
+    {
+        if Line::LOCATIONS <= location {
+            return Err(Row::UnknownLocation);
+        }
+        Ok(())
+    }
 
-// Row 8.
-fn location_row(location: u16) -> usize
-    ensures { result ≡ location_row location }
-{
-    if Line::LOCATIONS <= location {
-        return 8;
+    // Rows 9 and 10.
+    fn admit_fork(self, ws: &mut [u16], child: u16) -> Result<(), Row>
+        requires { Sound ws.old self }
+        ensures { rowed (after_in self Fork) result ws.new ≡ fork_in ws.old self child }
+    {
+        if Line::TASKS <= child {
+            return Err(Row::UnknownTask);
+        }
+        if cells::cell(ws, USED, child) != 0 {
+            return Err(Row::UsedTask);
+        }
+        self.fork(ws, child);
+        Ok(())
     }
-    0
-}
 
-// Rows 9 and 10.
-fn fork_row(ws: &mut [u16], line: Line, child: u16) -> usize
-    requires { Sound ws.old line }
-    ensures { rowed (after_in line Fork) result ws.new ≡ fork_in ws.old line child }
-{
-    if Line::TASKS <= child {
-        return 9;
+    // Row 11. A join stores nothing: the joined task is the nearest, and `after` takes it away.
+    fn admit_join(self, ws: &[u16], task: u16) -> Result<(), Row>
+        requires { Sound ws.now self }
+        ensures { rowed (after_in self Join) result ws.now ≡ join_in ws.now self task }
+    {
+        if self.left == 0 {
+            return Err(Row::NotLeft);
+        }
+        if self.nearest(ws) != task {
+            return Err(Row::NotLeft);
+        }
+        Ok(())
     }
-    if cells::cell(ws, USED, child) != 0 {
-        return 10;
-    }
-    fork(ws, line, child);
-    0
-}
 
-// Row 11. A join stores nothing: the joined task is the nearest, and `after` takes it away.
-fn join_row(ws: &[u16], line: Line, task: u16) -> usize
-    requires { Sound ws.now line }
-    ensures { rowed (after_in line Join) result ws.now ≡ join_in ws.now line task }
-{
-    if line.left == 0 {
-        return 11;
+    // Row 12: the operand "names the task that resumes".
+    fn admit_halt(self, ws: &mut [u16], operand: u16) -> Result<(), Row>
+        requires sound { Sound ws.old self }
+        requires active_nonzero { 0 < self.active }
+        ensures { rowed (after_in self Halt) result ws.new ≡ halt_in ws.old self operand }
+    {
+        let parent = self.resumes(ws);
+        if operand != parent {
+            return Err(Row::NotResumed);
+        }
+        self.halt(ws);
+        Ok(())
     }
-    if nearest(ws, line) != task {
-        return 11;
-    }
-    0
-}
 
-// Row 12: the operand "names the task that resumes".
-fn halt_row(ws: &mut [u16], line: Line, operand: u16) -> usize
-    requires sound { Sound ws.old line }
-    requires active_nonzero { 0 < line.active }
-    ensures { rowed (after_in line Halt) result ws.new ≡ halt_in ws.old line operand }
-{
-    let parent = resumes(ws, line);
-    if operand != parent {
-        return 12;
+    // The one row for the event's kind: there is none from 6 on, and the others are accesses. The match calls the rule's
+    // function itself and does not name the accesses, whose numbers do not stand together: with them, or by way of an enum of the rules, which is matched again,
+    // it compiles to a jump table, and random traces take a seventh longer.
+    fn admit_by_kind(self, ws: &mut [u16], kind: u8, operand: u16) -> Result<(), Row>
+        requires sound { Sound ws.old self }
+        requires active_nonzero { 0 < self.active }
+        ensures { rowed (after_in self (rule_of kind)) result ws.new ≡ act_in ws.old self (rule_of kind) operand }
+    {
+        match kind {
+            FORK => self.admit_fork(ws, operand),
+            JOIN => self.admit_join(ws, operand),
+            HALT => self.admit_halt(ws, operand),
+            6..=255 => Err(Row::UnknownKind),
+            _ => Line::admit_location(operand),
+        }
     }
-    halt(ws, line);
-    0
-}
 
-// The one row for the event's kind: 2 is a fork, 3 a join, 4 a halt, there is none from 6 on, and the others are accesses. The match calls the rule's function
-// itself and does not name the accesses, whose numbers do not stand together: with them, or by way of a value for the rule, which is matched again, it compiles
-// to a jump table, and random traces take a seventh longer.
-fn act(ws: &mut [u16], line: Line, kind: u8, operand: u16) -> usize
-    requires sound { Sound ws.old line }
-    requires active_nonzero { 0 < line.active }
-    ensures { rowed (after_in line (rule_of kind)) result ws.new ≡ act_in ws.old line (rule_of kind) operand }
-{
-    match kind {
-        2 => fork_row(ws, line, operand),
-        3 => join_row(ws, line, operand),
-        4 => halt_row(ws, line, operand),
-        6..=255 => 5,
-        _ => location_row(operand),
+    // One event: rows 5, 6 and 7, then the one row for its kind. Where none is met, the line goes on to `after`. It is not handed back: a line that came back
+    // through memory, field by field, would be waited for at every event.
+    pub fn admit(self, ws: &mut [u16], event: Event) -> Result<(), Row>
+        requires { Sound ws.old self }
+        ensures { rowed (after_in self (rule_of event.kind)) result ws.new ≡ event_in ws.old self event.kind event.task event.operand }
+    {
+        if SUM < event.kind {
+            return Err(Row::UnknownKind);
+        }
+        if self.active == 0 {
+            return Err(Row::Ended);
+        }
+        if event.task != self.running(ws) {
+            return Err(Row::NotRunning);
+        }
+        self.admit_by_kind(ws, event.kind, event.operand)
     }
-}
 
-// One event: rows 5, 6 and 7, then the one row for its kind. Where none is met, the line goes on to `after`.
-pub fn event(ws: &mut [u16], line: Line, kind: u8, task: u16, operand: u16) -> usize
-    requires { Sound ws.old line }
-    ensures { rowed (after_in line (rule_of kind)) result ws.new ≡ event_in ws.old line kind task operand }
-{
-    if SUM < kind {
-        return 5;
+    // The line after an event of this kind that met no row.
+    pub fn after(self, kind: u8) -> Line
+        requires { Movable self kind }
+        ensures { result ≡ after_in self (rule_of kind) }
+    {
+        match kind {
+            FORK => Line {
+                active: self.active + 1,
+                ..self
+            },
+            JOIN => Line {
+                left: self.left - 1,
+                ..self
+            },
+            HALT => Line {
+                active: self.active - 1,
+                left: self.left + 1,
+            },
+            _ => self,
+        }
     }
-    if line.active == 0 {
-        return 6;
-    }
-    if task != running(ws, line) {
-        return 7;
-    }
-    act(ws, line, kind, operand)
-}
-
-// The line after an event of this kind that met no row.
-pub fn after(line: Line, kind: u8) -> Line
-    requires { Movable line kind }
-    ensures { result ≡ after_in line (rule_of kind) }
-{
-    let mut active = line.active;
-    let mut left = line.left;
-    if kind == FORK {
-        active += 1;
-    }
-    if kind == JOIN {
-        left -= 1;
-    }
-    if kind == HALT {
-        active -= 1;
-        left += 1;
-    }
-    Line { active, left }
 }

@@ -1,12 +1,13 @@
 -- The ordering call's entry point: each answer meets the outcome and with it what is demanded of the call. Assumes nothing.
 use Prim.Native.Nat.{ℕ, ◌+◌}
+use Rattle.std.specs.Prelude.{Result}
 use mathlib.Core.Path.{◌≡◌, sym, subst}
+use mathlib.Core.Bool.{Bool}
 use mathlib.Core.List.{List}
-use mathlib.Core.Logic.{◌≢◌}
 use lib.ListN.{length}
-use Rattle.trace.specs.declared.Ordering.{Ordering}
+use Rattle.trace.specs.declared.Refusal.{Refusal}
 use Rattle.trace.specs.Trace.{trace_of, WORKSPACE_CELLS}
-use Rattle.trace.specs.Line.{passes}
+use Rattle.trace.specs.Line.{passes, fails}
 use Rattle.trace.specs.Outcome.{refused, sizes, OrderingOutcome, ordering_checked, ordering_outcome}
 use Rattle.trace.specs.Answers.{ordering_reply}
 use Rattle.trace.specs.Demands.{OrderingDemand1, OrderingCallDemand}
@@ -14,16 +15,14 @@ use Rattle.trace.proofs.Demand1.{ordering_demand_1}
 use Rattle.trace.proofs.OrderingCall.{ordering_call_demand}
 use Rattle.cells.specs.Cells.{zeroed}
 use Rattle.cells.proofs.Rests.{rest_cleared}
-use Rattle.sizes.specs.Rows.{row_of}
-use Rattle.sizes.proofs.Sizing.{sizes_fail, sizes_pass}
 use Rattle.ranks.specs.declared.Ranked.{Ranked}
 use Rattle.ranks.specs.States.{RankSays}
 use Rattle.ordering.specs.Asks.{ordering_gives, AnswerSays}
 
-module _ (kinds tasks operands workspace : List ℕ) (p q : ℕ) (r : Ordering) (w : List ℕ) where
+module _ (kinds tasks operands workspace : List ℕ) (p q : ℕ) (r : Result Bool Refusal) (w : List ℕ) where
   -- Past the size checks: the answer, and the workspace cleared.
   pub asked :
-      (n : ℕ) (ranked : Ranked) (exit : List ℕ) → RankSays kinds (trace_of kinds tasks operands) n workspace exit ranked.events ranked.row
+      (n : ℕ) (ranked : Ranked) (exit : List ℕ) → RankSays kinds (trace_of kinds tasks operands) n workspace exit ranked.events ranked.broken
       → AnswerSays kinds p q exit ranked (ordering_reply r) → w ≡ zeroed (WORKSPACE_CELLS + n) exit
       → ordering_gives r w ≡ ordering_checked kinds tasks operands workspace p q (passes n)
   unfolding ordering_checked ordering_gives
@@ -47,12 +46,13 @@ module _ (kinds tasks operands workspace : List ℕ) (p q : ℕ) (r : Ordering) 
     ),
   )
 
-  module _ (number : ℕ) (sized : number ≡ row_of (sizes kinds tasks operands workspace)) where
-    pub promised_sizes : number ≢ 0 → ordering_reply r ≡ refused number 0 → w ≡ workspace → Promised
-    unfolding ordering_outcome ordering_checked ordering_gives
-    promised_sizes met e kept =
-        promised (rw (sizes_fail kinds tasks operands workspace number sized met, ordering_checked) (cc (e, kept)))
+  pub promised_sizes :
+      (number : ℕ) → fails number ≡ sizes kinds tasks operands workspace → ordering_reply r ≡ refused number 0 → w ≡ workspace → Promised
+  unfolding ordering_outcome ordering_checked ordering_gives
+  promised_sizes number met e kept = promised (rw (sym met, ordering_checked) (cc (e, kept)))
 
-    pub promised_asked : number ≡ 0 → ordering_gives r w ≡ ordering_checked kinds tasks operands workspace p q (passes (length kinds)) → Promised
-    unfolding ordering_outcome
-    promised_asked none e = promised (rw (sizes_pass kinds tasks operands workspace number sized none) e)
+  pub promised_asked :
+      passes (length kinds) ≡ sizes kinds tasks operands workspace
+      → ordering_gives r w ≡ ordering_checked kinds tasks operands workspace p q (passes (length kinds)) → Promised
+  unfolding ordering_outcome
+  promised_asked sized e = promised (rw (sym sized) e)

@@ -8,10 +8,11 @@ use mathlib.Core.List.{List, [], ◌∷◌, ◌++◌}
 use lib.ListN.{length, take, drop, set, length-append, length-take, length-set}
 use lib.Seq.{sets, sets-eq}
 use borrow.Author.Tests.{lt-ltb, le-ltb, le-leb, lt-leb, ltb-true}
+use Rattle.std.specs.Prelude.{Result, Ok, Err}
 use Rattle.trace.specs.Outcome.{Reply, says, refused, Verdict, clean, race}
 use Rattle.trace.specs.Answers.{judge_reply}
-use Rattle.trace.specs.declared.Answer.{Answer}
-use Rattle.trace.specs.declared.Answer.TheVariants.{Clean, Race, Refused}
+use Rattle.trace.specs.declared.Verdict as code
+use Rattle.trace.specs.declared.Verdict.TheVariants.{Clean, Race}
 use Rattle.trace.specs.declared.Refusal.{Refusal}
 use Rattle.form.specs.Decided.{MAX_TEXT_EVENTS}
 use Rattle.output.specs.Output.{CLEAN, RACE, REFUSED, rest, order_line, order_lines, output, Buffer, buffer, add_byte, add, OUTPUT_BYTES}
@@ -76,29 +77,29 @@ module _ (count : ℕ) (first second out : List ℕ) where
       let l = length_output reply count first second e in
       add_whole out (output reply count first second) (omega arith) ∙ rw (le-leb OUTPUT_BYTES (length out) h, e)
 
-  module _ (answer : Answer) where
+  module _ (answer : Result code.Verdict Refusal) where
     pub render_short : length out < OUTPUT_BYTES → buffer out 0 ≡ rendered (judge_reply answer) count first second out
     unfolding rendered
     render_short h = rw (lt-leb OUTPUT_BYTES (length out) h)
 
     module _ (h : OUTPUT_BYTES ≤ length out) (b : Buffer) where
-      pub render_clean : (links : ℕ) → answer ≡ Clean links → b ≡ add (buffer out 0) (CLEAN ++ rest (count ∷ []))
+      pub render_clean : (v : code.Verdict) → answer ≡ Ok v → (links : ℕ) → v ≡ Clean links → b ≡ add (buffer out 0) (CLEAN ++ rest (count ∷ []))
           → b ≡ rendered (judge_reply answer) count first second out
       unfolding judge_reply output
-      render_clean links e f = f ∙ rw e (rendered_whole (says clean) h refl)
+      render_clean v e links i f = f ∙ rw (e, i) (rendered_whole (says clean) h refl)
 
-      pub render_refused : (x : Refusal) → answer ≡ Refused x → b ≡ add (buffer out 0) (REFUSED ++ rest (x.number ∷ x.position ∷ []))
+      pub render_refused : (x : Refusal) → answer ≡ Err x → b ≡ add (buffer out 0) (REFUSED ++ rest (x.number ∷ x.position ∷ []))
           → b ≡ rendered (judge_reply answer) count first second out
       unfolding judge_reply output
       render_refused x e f = f ∙ rw e (rendered_whole (refused x.number x.position) h refl)
 
-      pub render_race : (s t links : ℕ) → answer ≡ Race s t links → t < MAX_TEXT_EVENTS
+      pub render_race : (v : code.Verdict) → answer ≡ Ok v → (s t links : ℕ) → v ≡ Race s t links → t < MAX_TEXT_EVENTS
           → b ≡ add (buffer out 0) ((RACE ++ rest (s ∷ t ∷ [])) ++ order_lines t first second)
           → b ≡ rendered (judge_reply answer) count first second out
       unfolding judge_reply output
-      render_race s t links e k f = f ∙ rw e (rendered_whole (says (race s t)) h (lt-ltb t MAX_TEXT_EVENTS k))
+      render_race v e s t links i k f = f ∙ rw (e, i) (rendered_whole (says (race s t)) h (lt-ltb t MAX_TEXT_EVENTS k))
 
-    pub render_past : OUTPUT_BYTES ≤ length out → (s t links : ℕ) → answer ≡ Race s t links → MAX_TEXT_EVENTS ≤ t
+    pub render_past : OUTPUT_BYTES ≤ length out → (v : code.Verdict) → answer ≡ Ok v → (s t links : ℕ) → v ≡ Race s t links → MAX_TEXT_EVENTS ≤ t
         → buffer out 0 ≡ rendered (judge_reply answer) count first second out
     unfolding judge_reply rendered
-    render_past h s t links e k = rw (e, le-leb OUTPUT_BYTES (length out) h, le-ltb t MAX_TEXT_EVENTS k)
+    render_past h v e s t links i k = rw (e, i, le-leb OUTPUT_BYTES (length out) h, le-ltb t MAX_TEXT_EVENTS k)

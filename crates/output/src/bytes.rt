@@ -1,6 +1,7 @@
 // The bytes of the program's output, one after the other into a lent buffer. A function that puts bytes at a place hands back the place after them;
-// a byte that the buffer has no room for is left out.
-ghost use Rattle.std.specs.Prelude.{◌≡◌, ◌-◌, ◌≤◌, ◌<◌, min, [], ◌∷◌, ◌++◌, length, take, drop};
+// a byte that the buffer has no room for is left out, where std's writers fail, so numbers are printed here. The buffer and the place are no struct: each
+// function would have to promise that the struct holds the same buffer.
+ghost use Rattle.std.specs.Prelude.{◌≡◌, ◌<◌, [], ◌∷◌, ◌++◌, take};
 ghost use Rattle.numbers.specs.Decimal.{decimal};
 ghost use Rattle.form.specs.Decided.{MAX_TEXT_EVENTS};
 ghost use Rattle.output.specs.Output.{CLEAN, RACE, REFUSED, rest, order_line, order_lines, buffer, add_byte, add};
@@ -19,10 +20,8 @@ fn put_word(out: &mut [u8], at: usize, word: &[u8]) -> usize
     ensures { buffer out.new result ≡ add (buffer out.old at) word.now }
 {
     let mut place = at;
-    let mut i: usize = 0;
-    while i < word.len() {
-        place = put_byte(out, place, word[i]);
-        i += 1;
+    for byte in word {
+        place = put_byte(out, place, *byte);
     }
     place
 }
@@ -46,49 +45,27 @@ fn put_next(out: &mut [u8], at: usize, n: usize) -> usize
     put_number(out, place, n)
 }
 
-fn wide(cell: u16) -> usize
-    ensures { result ≡ cell }
-{
-    cell as usize
-}
-
-// A single space and a cell's number.
-fn put_cell(out: &mut [u8], at: usize, cell: u16) -> usize
-    ensures { buffer out.new result ≡ add (buffer out.old at) (32 ∷ decimal cell) }
-{
-    put_next(out, at, cell as usize)
-}
-
-// The rest of a line: the cells from `from` to `to`, each after a single space, and the line feed.
-fn put_rest(out: &mut [u8], at: usize, cells: &[u16], from: usize, to: usize) -> usize
-    requires { (from ≤ to) × (to ≤ length cells.now) }
-    ensures { buffer out.new result ≡ add (buffer out.old at) (rest (take (to - from) (drop from cells.now))) }
+// The rest of a line: the cells, each after a single space, and the line feed.
+fn put_rest(out: &mut [u8], at: usize, cells: &[u16]) -> usize
+    ensures { buffer out.new result ≡ add (buffer out.old at) (rest cells.now) }
 {
     let mut place = at;
-    let mut i = from;
-    while i < to {
-        place = put_cell(out, place, cells[i]);
-        i += 1;
+    for cell in cells {
+        place = put_next(out, place, usize::from(*cell));
     }
     put_byte(out, place, b'\n')
-}
-
-fn least(a: usize, b: usize) -> usize
-    ensures { result ≡ min a b }
-{
-    if a < b { a } else { b }
 }
 
 // The first `count` cells of an order, as a line.
 fn put_order(out: &mut [u8], at: usize, order: &[u16], count: usize) -> usize
     ensures { buffer out.new result ≡ add (buffer out.old at) (order_line (take count order.now)) }
 {
-    let end = least(count, order.len());
-    if end == 0 {
+    let end = count.min(order.len());
+    let Some((first, more)) = order[..end].split_first() else {
         return put_byte(out, at, b'\n');
-    }
-    let place = put_number(out, at, wide(order[0]));
-    put_rest(out, place, order, 1, end)
+    };
+    let place = put_number(out, at, usize::from(*first));
+    put_rest(out, place, more)
 }
 
 // A word and two numbers, as a line.

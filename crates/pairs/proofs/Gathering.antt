@@ -3,10 +3,13 @@ use Prim.Native.Nat.{ℕ, suc, ◌+◌, ◌<◌, ◌≤◌}
 use mathlib.Core.Path.{◌≡◌, refl, sym, ap₂, subst, ◌∙◌}
 use mathlib.Core.Bool.{Bool, true, false, false≢true}
 use mathlib.Core.List.{List, [], map}
-use mathlib.Core.Logic.{◌≢◌, inl, inr}
+use mathlib.Core.Logic.{inl, inr}
+use Rattle.std.specs.Prelude.{Option, Some, None, is_some, unwrap_or}
 use native.Mathlib.Omega.{arith}
 use lib.ListN.{length, length-map}
 use borrow.Author.Tests.{le-ltb}
+use Rattle.trace.specs.declared.Row.{Row}
+use Rattle.trace.specs.Rows.{row_number}
 use Rattle.trace.specs.Trace.{Trace, trace_of, WORKSPACE_CELLS}
 use Rattle.trace.specs.Line.{passes, fails, row, halt_operand, line_after}
 use Rattle.trace.specs.Search.{race?}
@@ -123,6 +126,10 @@ module _ {kinds operands entry one : List ℕ} {b b₁ : Slices} {count : ℕ} (
 
 -- ---- where no access races
 
+pub none_past : (found : Option ℕ) (n : ℕ) → is_some found ≡ false → unwrap_or found n ≡ n
+none_past None n e = refl
+none_past (Some t) n e = absurd (false≢true (sym e))
+
 module _ {kinds operands entry one : List ℕ} {from first : ℕ} (lent : Listable kinds operands entry from)
     (found : FirstRace kinds operands (own_number kinds entry) (length kinds) first) (kept : SameFrom SCAN-TABLES entry one) where
   past : SameFrom TABLES entry one
@@ -183,22 +190,24 @@ module _ {kinds operands entry one : List ℕ} {from first : ℕ} (lent : Listab
 
 -- ---- in the documents' terms
 
-module _ {kinds tasks operands entry ordered : List ℕ} {events number : ℕ} (lent : Sized kinds tasks operands entry (length kinds))
-    (ranked : RankSays kinds (trace_of kinds tasks operands) (length kinds) entry ordered events number) where
+module _ {kinds tasks operands entry ordered : List ℕ} {events : ℕ} {broken : Option Row} (lent : Sized kinds tasks operands entry (length kinds))
+    (ranked : RankSays kinds (trace_of kinds tasks operands) (length kinds) entry ordered events broken) where
   abbrev tr : Trace
   tr = trace_of kinds tasks operands
 
   -- An event breaks a rule.
-  pub gather_broken : (b : Slices) (reply : Reply ℕ) → number ≢ 0 → reply ≡ refused number events → GatherSays tr (length kinds) entry ordered b b reply
+  pub gather_broken :
+      (row : Row) (b : Slices) (reply : Reply ℕ) → broken ≡ Some row → reply ≡ refused (row_number row) events → GatherSays tr (length kinds) entry ordered b b reply
   unfolding listing
-  gather_broken b reply met said =
-      let broken = ranked.rules.met met in
-      let first = broken.1 in
+  gather_broken row b reply met said =
+      let says = ranked.rules.met row met in
+      let first = says.1 in
       let after = line_more halt_operand tr events first.line first.kept_before ∙ first.broken in
-      let met-there : line_after halt_operand tr (length kinds) ≡ fails number = fails_later halt_operand tr (suc events) (length kinds) number broken.0 after in
+      let met-there : line_after halt_operand tr (length kinds) ≡ fails (row_number row) =
+      fails_later halt_operand tr (suc events) (length kinds) (row_number row) says.0 after in
       record { rest = ranked.rest; told = λ w. rw (met-there, ← ranked.rules.graph, said) refl }
 
-  module _ (none : number ≡ 0) where
+  module _ (none : broken ≡ None) where
     whole : events ≡ length kinds
     whole = (ranked.rules.none_met none).0
 

@@ -18,7 +18,7 @@ use Rattle.scan.specs.Tables.{TABLES as SCAN-TABLES, Tables, RaceSays, held_agai
 use Rattle.scan.proofs.Largest.{keeps_tested, tables_same, tables_move, tables_kept, race_by_table}
 use Rattle.scan.proofs.Scanning.{numbers_same, numbered_same}
 use Rattle.pairs.specs.Pairs.{pairs_at, pairs_below, Slices}
-use Rattle.pairs.specs.Close.{race_by, SEEN, Seen, written, Fits, close_in, Visitable, Taken, VisitSays, TABLES, Ready, racing, PassSays}
+use Rattle.pairs.specs.Close.{race_by, SEEN, Seen, written, Fits, close_in, Visitable, Taken, VisitSays, TABLES, Ready, Begun, racing, PassSays}
 use Rattle.pairs.proofs.Partners.{test_race_by, race_by_same}
 use Rattle.pairs.proofs.PairLists.{at_none, at_agree, below_next, below_length, below_few, below_grows, below_none, written_none, written_more}
 use Rattle.pairs.proofs.PairLists.{written_lengths}
@@ -58,46 +58,50 @@ pub record Passing (kinds operands start c : List ℕ) (write : Bool) (b b' : Sl
   pub counted : count ≡ length (racing kinds operands start t)
   pub held : b' ≡ written write 0 (racing kinds operands start t) b
 
-module _ (kinds operands : List ℕ) {from : ℕ} where
-  -- The first access that races is r: before it there are no pairs.
-  module _ {entry one start : List ℕ} {r : ℕ} (ready : Ready kinds operands entry from)
-      (found : FirstRace kinds operands (own_number kinds entry) (length kinds) r × (SameFrom SCAN-TABLES entry one × Tables kinds operands (own_number kinds entry) r one))
-      (filled : Filled SEEN LOCATIONS (λ l. r) one start) where
-    pub begun_beyond : SameFrom TABLES entry start
-    begun_beyond =
-        same_from_trans (same_from_higher (omega arith) found.1.0)
-        (record { long = filled.long; same = λ i h. filled.same i (inr (omega arith)) })
+module _ (kinds operands : List ℕ) where
+  -- Behind `first_race` and `forget` a pass begins.
+  pub begun :
+      {entry one start : List ℕ} (r : ℕ) → FirstRace kinds operands (own_number kinds entry) (length kinds) r → SameFrom SCAN-TABLES entry one
+      → Tables kinds operands (own_number kinds entry) r one → Filled SEEN LOCATIONS (λ l. r) one start → Begun kinds operands entry start r
+  begun {entry} {one} {start} r found kept tables filled =
+      record {
+        beyond =
+            same_from_trans (same_from_higher (omega arith) kept) (record { long = filled.long; same = λ i h. filled.same i (inr (omega arith)) });
+        first = found;
+        tables = tables_same kinds operands (own_number kinds entry) r one start (λ i h. filled.same i (inl (omega arith))) tables;
+        seen = filled.filled;
+      }
 
+module _ (kinds operands : List ℕ) {from : ℕ} where
+  -- Before r, where it begins, there are no pairs.
+  module _ {entry start : List ℕ} {r : ℕ} (ready : Ready kinds operands entry from) (b : Begun kinds operands entry start r) where
     -- A pass can be made from there,
     pub begun_ready : Ready kinds operands start from
-    begun_ready = ready_same begun_beyond ready
+    begun_ready = ready_same b.beyond ready
 
     pub begun_fits :
-        {write : Bool} {b : Slices} → Fits write (length (racing kinds operands entry (length kinds))) b
-        → Fits write (length (racing kinds operands start (length kinds))) b
-    begun_fits fits = rw (racing_same begun_beyond kinds operands (length kinds)) fits
+        {write : Bool} {slices : Slices} → Fits write (length (racing kinds operands entry (length kinds))) slices
+        → Fits write (length (racing kinds operands start (length kinds))) slices
+    begun_fits fits = rw (racing_same b.beyond kinds operands (length kinds)) fits
 
-    pub passing_begins : (write : Bool) (b : Slices) → Passing kinds operands start start write b b 0 r
-    passing_begins write b =
-        let number = own_number kinds start in
-        let same = own_same begun_beyond kinds in
+    pub passing_begins : (write : Bool) (slices : Slices) → Passing kinds operands start start write slices slices 0 r
+    passing_begins write slices =
+        let same = own_same b.beyond kinds in
         let none : racing kinds operands start r ≡ [] =
-        racing_same begun_beyond kinds operands r
+        racing_same b.beyond kinds operands r
         ∙ below_none (race_by kinds operands (own_number kinds entry)) r
-        (λ s t h i. tests_false _ (test_race_by kinds operands (own_number kinds entry) s t i) (found.0.none_before s t h)) in
+        (λ s t h i. tests_false _ (test_race_by kinds operands (own_number kinds entry) s t i) (b.first.none_before s t h)) in
         record {
-          within = found.0.within;
+          within = b.first.within;
           beyond = same_from_refl TABLES start;
-          tables =
-              rw same
-              (tables_same kinds operands (own_number kinds entry) r one start (λ i h. filled.same i (inl (omega arith))) found.1.1);
+          tables = rw same b.tables;
           seen =
               record {
-                within = λ l low. omega (arith, filled.filled l low);
-                none_since = λ l p low far less access e. omega (arith, filled.filled l low);
+                within = λ l low. omega (arith, b.seen l low);
+                none_since = λ l p low far less access e. omega (arith, b.seen l low);
               };
           counted = rw none refl;
-          held = rw none (written_none write 0 b);
+          held = rw none (written_none write 0 slices);
         }
 
   module _ {start c : List ℕ} {write : Bool} {b b' : Slices} {count t : ℕ} (ready : Ready kinds operands start from)

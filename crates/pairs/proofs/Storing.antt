@@ -1,14 +1,16 @@
 -- The events of a stretch that pass a test, counted, and stored one after the other where each event is stored and the next one over it if it fails. Nothing here
 -- is of traces. Assumes nothing.
-use Prim.Native.Nat.{ℕ, zero, suc, ◌+◌, ◌-◌, max, ◌<◌, ◌≤◌}
+use Prim.Native.Nat.{ℕ, ◌+◌, ◌-◌, max, ◌<◌, ◌≤◌}
 use mathlib.Core.Path.{◌≡◌, refl, sym, ap, subst, ◌∙◌}
 use mathlib.Core.Bool.{Bool, true, false}
-use mathlib.Core.List.{List, [], ◌∷◌, ◌++◌, append-nil, map}
+use mathlib.Core.List.{List, [], ◌∷◌, ◌++◌, append-nil, append_assoc, map}
 use native.Mathlib.Omega.{arith}
 use lib.Dec.{eqb}
-use lib.ListN.{length, get_or, set, replicate, length-set, length-append, length-replicate}
-use lib.Seq.{sets, ext_get_or, get_or-drop, get_or-set_same, get_or-set_other, length-sets}
+use lib.ListN.{length, get_or, set, replicate, take, length-set, length-append, length-replicate, length-take, length-drop, get_or-append, get_or-replicate}
+use lib.Seq.{sets, sets-eq, drop-drop, ext_get_or, get_or-drop, get_or-take, get_or-append-add, get_or-set_same, get_or-set_other, length-sets}
 use mir.Val.{bool_byte}
+use borrow.Rule.Slice.PartMut.{put_mid}
+use Rattle.cells.specs.Cells.{Filled}
 use Rattle.trace.specs.Orders.{count_up, chosen}
 use Rattle.pairs.specs.Pairs.{CLOSE}
 use Rattle.trace.proofs.Tests.{either, same_or_not, lt_or_le}
@@ -179,6 +181,8 @@ pub record Writing (test : ℕ → Bool) (from to : ℕ) (entry : List ℕ) (at 
   pub high : s ≤ max from to
   pub place : i ≡ at + length (chosen test from s)
   pub within : i ≤ end
+  -- events are left where cells are
+  pub inside : i < end → s < to
   pub held : Stores entry at end (chosen test from s) l
 
 pub writing_begins :
@@ -186,27 +190,25 @@ pub writing_begins :
     → Writing test from to entry at end entry at from
 writing_begins test from to entry at end all =
     let none = chosen_none test from in
-    record { low = omega arith; high = omega arith; place = omega (arith, ap length none); within = omega arith; held = rw none (stores_none entry at end) }
+    record { low = omega arith; high = omega arith; place = omega (arith, ap length none); within = omega arith; inside = λ more. chosen_more test from from to (omega (arith, ap length none)); held = rw none (stores_none entry at end) }
 
 module _ {test : ℕ → Bool} {from to : ℕ} {entry : List ℕ} {at end : ℕ} {l : List ℕ} {i s : ℕ} (w : Writing test from to entry at end l i s)
     (all : end ≡ at + length (chosen test from to)) where
-  -- Events are left,
-  pub writing_inside : i < end → s < to
-  writing_inside more = let place = w.place in chosen_more test from s to (omega arith)
-
-  -- of which the next one is stored, and stored over if it fails;
+  -- The next event is stored, and stored over if it fails;
   pub writing_more :
       (b : Bool) → b ≡ test s → i < end → end ≤ length entry → Writing test from to entry at end (set l i s) (i + bool_byte b) (s + 1)
   writing_more b e more room =
       let low = w.low in
       let place = w.place in
-      let inside = writing_inside more in
+      let inside = w.inside more in
       let few = bit_few b in
+      let next : i + bool_byte b ≡ at + length (chosen test from (s + 1)) = omega (arith, counted_more test from b (length (chosen test from s)) s e low refl) in
       record {
         low = omega arith;
         high = omega arith;
-        place = omega (arith, counted_more test from b (length (chosen test from s)) s e low refl);
+        place = next;
         within = omega arith;
+        inside = λ left. chosen_more test from (s + 1) to (omega arith);
         held = stored b e;
       }
     where
@@ -235,17 +237,37 @@ writing_marked {test} {from} {to} {entry} {at} {end} {l} {i} {s} v w all e few m
 
 -- ---- one value in a row of cells
 
-pub repeated_more :
-    (l out : List ℕ) (at i t : ℕ) → at ≤ i → out ≡ sets l at (replicate (i - at) t) → set out i t ≡ sets l at (replicate (i + 1 - at) t)
-repeated_more l out at i t low e =
-    let grown : i + 1 - at ≡ suc (i - at) = omega arith in
-    let there : at + length (replicate (i - at) t) ≡ i = rw length-replicate (omega arith) in
-    rw (e, grown, replicate_snoc (i - at) t)
-    (sym (sets_append (replicate (i - at) t) (t ∷ []) l at ∙ ap (λ (k : ℕ). set (sets l at (replicate (i - at) t)) k t) there))
-  where
-    replicate_snoc : (k t : ℕ) → replicate (suc k) t ≡ replicate k t ++ (t ∷ [])
-    replicate_snoc zero t = refl
-    replicate_snoc (suc k) t = ap (λ (z : List ℕ). t ∷ z) (replicate_snoc k t)
+-- A part of a slice after `fill`:
+module _ (l : List ℕ) (at k v : ℕ) (room : at + k ≤ length l) where
+  -- the value is stored k times,
+  pub fill_sets : put_mid at k l (replicate k v) ≡ sets l at (replicate k v)
+  fill_sets =
+      let fits : at + length (replicate k v) ≤ length l = rw length-replicate room in
+      sym (sets-eq (replicate k v) l at fits ∙ simp (length-replicate, drop-drop, append_assoc))
+
+  -- and each of the k cells has it.
+  pub fill_filled : Filled at k (λ i. v) l (put_mid at k l (replicate k v))
+  fill_filled =
+      let front : length (take at l) ≡ at = simp length-take (omega arith) in
+      record {
+        long = simp (length-append, length-replicate, length-drop, length-take) (omega arith);
+        filled = λ i h.
+            ap (λ (n : ℕ). get_or (put_mid at k l (replicate k v)) (n + i) 0) (sym front)
+            ∙ get_or-append-add (take at l) _ i 0
+            ∙ get_or-append (replicate k v) _ 0 i (rw length-replicate h)
+            ∙ get_or-replicate k i v 0 h;
+        same = λ i h. either h
+            (λ low. get_or-append (take at l) _ 0 i (rw front low) ∙ get_or-take at l i 0 low)
+            (λ high.
+            let e : at + (k + (i - at - k)) ≡ i = omega arith in
+            let there : length (take at l) + (length (replicate k v) + (i - at - k)) ≡ i = rw (front, length-replicate) e in
+            ap (λ (n : ℕ). get_or (put_mid at k l (replicate k v)) n 0) (sym there)
+            ∙ get_or-append-add (take at l) _ _ 0
+            ∙ get_or-append-add (replicate k v) _ _ 0
+            ∙ get_or-drop k _ _ 0
+            ∙ get_or-drop at l _ 0
+            ∙ ap (λ (n : ℕ). get_or l n 0) e);
+      }
 
 pub map_replicate : (xs : List ℕ) (t : ℕ) → map (λ s. t) xs ≡ replicate (length xs) t
 map_replicate [] t = refl

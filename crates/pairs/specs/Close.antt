@@ -9,8 +9,8 @@ use Rattle.trace.specs.Orders.{chosen}
 use Rattle.trace.specs.Outcome.{Reply}
 use Rattle.cells.specs.Cells.{SameFrom, Rest, NUMBER, number_in}
 use Rattle.ranks.specs.States.{own_number}
-use Rattle.scan.specs.Numbered.{Numbered}
-use Rattle.scan.specs.Tables.{RaceSays}
+use Rattle.scan.specs.Numbered.{Numbered, FirstRace}
+use Rattle.scan.specs.Tables.{Tables, RaceSays}
 use Rattle.pairs.specs.declared.Access.{Access}
 use Rattle.pairs.specs.Pairs.{CLOSE, Pair, pairs_at, pairs_below, Slices, slices, too_short, list_checked, listing}
 
@@ -136,6 +136,13 @@ pub record Listable (kinds operands c : List ℕ) (from : ℕ) : Type 0 where
 pub record Ready (kinds operands c : List ℕ) (from : ℕ) : Type 0 where
   pub listable : Listable kinds operands c from
   pub spread : (p : ℕ) → p < length kinds → number_in c p ≡ own_number kinds c p
+
+-- A pass begins at event r, the first access that races, or past the last event: of no location anything is known but that r is not past it.
+pub record Begun (kinds operands entry start : List ℕ) (r : ℕ) : Type 0 where
+  pub beyond : SameFrom TABLES entry start
+  pub first : FirstRace kinds operands (own_number kinds entry) (length kinds) r
+  pub tables : Tables kinds operands (own_number kinds entry) r start
+  pub seen : (l : ℕ) → l < LOCATIONS → get_or start (SEEN + l) 0 ≡ r
 
 -- The pairs of the events below t, by the numbers of the segments.
 abbrev pub racing : List ℕ → List ℕ → List ℕ → ℕ → List Pair

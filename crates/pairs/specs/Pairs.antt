@@ -1,14 +1,14 @@
 -- Every close pair (document 02, K7): what the call answers and leaves in the two slices and in the workspace, as a total function of what is lent. Assumes
 -- nothing.
-use Rattle.std.specs.Prelude.{ℕ, zero, suc, ◌-◌, Bool, ◌||◌, List, [], ◌++◌, map, ltb, length, drop}
+use Rattle.std.specs.Prelude.{ℕ, zero, suc, ◌-◌, Result, Bool, ◌||◌, List, [], ◌++◌, map, ltb, length, drop}
+use Rattle.trace.specs.declared.Refusal.{Refusal}
 use Rattle.trace.specs.Trace.{Trace, trace_of}
 use Rattle.trace.specs.Line.{Line, Checked, passes, fails, row, halt_operand, line_after}
+use Rattle.trace.specs.Answers.{reply}
 use Rattle.trace.specs.Graph.{graph_events}
 use Rattle.trace.specs.Orders.{chosen}
 use Rattle.trace.specs.Search.{race?}
 use Rattle.trace.specs.Outcome.{Reply, says, refused, sizes, cleared}
-use Rattle.pairs.specs.declared.Listing.{Listing}
-use Rattle.pairs.specs.declared.Listing.TheVariants.{Listed, Refused}
 
 -- "with t − s at most 256"
 abbrev pub CLOSE : ℕ
@@ -59,12 +59,8 @@ pub record PairsOutcome : Type 0 where
   pub slices : Slices
   pub workspace : List ℕ
 
-unfoldable pub listing_reply : Listing → Reply ℕ
-listing_reply (Listed count) = says count
-listing_reply (Refused r) = refused r.number r.position
-
-abbrev pub pairs_gives : Listing → List ℕ → List ℕ → List ℕ → PairsOutcome
-pairs_gives r earlier later workspace = record { answer = listing_reply r; slices = slices earlier later; workspace = workspace }
+abbrev pub pairs_gives : Result ℕ Refusal → List ℕ → List ℕ → List ℕ → PairsOutcome
+pairs_gives r earlier later workspace = record { answer = reply r; slices = slices earlier later; workspace = workspace }
 
 module _ (b : Slices) (workspace : List ℕ) where
   -- "A refusal writes none." "A refusal tied to no event, line or byte has position 0."

@@ -10,6 +10,7 @@ use mathlib.Core.Logic.{◌↔◌}
 use mathlib.Core.Option.{Option, none, some}
 use lib.ListN.{length, take, drop, get_or, length-append, take-append-drop}
 use lib.Seq.{take_at, take-take, get_or_at}
+use Rattle.std.specs.Prelude.{None}
 use Rattle.trace.proofs.Tests.{either, lt_or_le}
 use Rattle.numbers.specs.Decimal.{decimal}
 use Rattle.numbers.specs.Reading.{digit, number}
@@ -19,7 +20,6 @@ use Rattle.plan.specs.Plans.{Plan, leaf, pair, print, access_letter, operator_le
 use Rattle.plan.specs.Reading.{letter_of, LAST_LOCATION, past, opening, stops, Reading, read, refused, plan_at, Whole, accepted, rejected, whole_of, whole}
 use Rattle.plan.specs.declared.Access.TheVariants.{Read}
 use Rattle.plan.specs.declared.Operator.{Operator}
-use Rattle.plan.specs.declared.Letter.TheVariants.{Other}
 use Rattle.plan.proofs.Spelling.{letter_access, letter_operator}
 use Rattle.plan.proofs.Stops.{Right, plan_right, right_plan, leaf_right, pair_right, Ends, Lacks, Row, stray, deep, row_number}
 use Rattle.plan.proofs.Stops.{Stop, no_letter, no_digit, no_level, no_bracket, in_left, no_comma, in_right, no_close}
@@ -106,7 +106,7 @@ number_none : (s : List ℕ) → Each (λ b. digit b ≡ none) (first s) → num
 number_none [] l = refl
 number_none (b ∷ s) l = rw (each_some l)
 
-letter_none : (room at : ℕ) (s : List ℕ) → Each (λ b. letter_of b ≡ Other) (first s) → stops 17 at ≡ opening room at s
+letter_none : (room at : ℕ) (s : List ℕ) → Each (λ b. letter_of b ≡ None) (first s) → stops 17 at ≡ opening room at s
 letter_none room at [] l = refl
 letter_none room at (b ∷ s) l = rw (each_some l)
 

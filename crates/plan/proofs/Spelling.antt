@@ -3,7 +3,8 @@
 use Prim.Native.Nat.{ℕ}
 use mathlib.Core.Path.{◌≡◌, refl}
 use lib.Dec.{eqb}
-use borrow.Author.Tests.{eqb-true, ne_eqb}
+use borrow.Author.Tests.{eqb-true}
+use Rattle.std.specs.Prelude.{Option, Some, None}
 use Rattle.trace.proofs.Tests.{by_test}
 use Rattle.plan.specs.Plans.{access_letter, operator_letter}
 use Rattle.plan.specs.Reading.{letter_of}
@@ -12,38 +13,26 @@ use Rattle.plan.specs.declared.Access.TheVariants.{Read, Write, Sum}
 use Rattle.plan.specs.declared.Operator.{Operator}
 use Rattle.plan.specs.declared.Operator.TheVariants.{Series, Parallel}
 use Rattle.plan.specs.declared.Letter.{Letter}
-use Rattle.plan.specs.declared.Letter.TheVariants.{Leaf, Joint, Other}
+use Rattle.plan.specs.declared.Letter.TheVariants.{Leaf, Joint}
 
-pub letter_access : (k : Access) → letter_of (access_letter k) ≡ Leaf k
+pub letter_access : (k : Access) → letter_of (access_letter k) ≡ Some (Leaf k)
 unfolding letter_of
 letter_access Read = refl
 letter_access Write = refl
 letter_access Sum = refl
 
-pub letter_operator : (o : Operator) → letter_of (operator_letter o) ≡ Joint o
+pub letter_operator : (o : Operator) → letter_of (operator_letter o) ≡ Some (Joint o)
 unfolding letter_of
 letter_operator Series = refl
 letter_operator Parallel = refl
 
--- ---- `letter_of`, as its tests come
-
-pub letter_leaf : (k : Access) (b : ℕ) → b ≡ access_letter k → Leaf k ≡ letter_of b
-letter_leaf k b e = rw (e, letter_access k)
-
-pub letter_joint : (o : Operator) (b : ℕ) → b ≡ operator_letter o → Joint o ≡ letter_of b
-letter_joint o b e = rw (e, letter_operator o)
-
-pub letter_other : (b : ℕ) → (b ≡ 114 → ⊥) → (b ≡ 119 → ⊥) → (b ≡ 115 → ⊥) → (b ≡ 83 → ⊥) → (b ≡ 80 → ⊥) → Other ≡ letter_of b
-unfolding letter_of
-letter_other b r w s o p = simp (ne_eqb _ _ r, ne_eqb _ _ w, ne_eqb _ _ s, ne_eqb _ _ o, ne_eqb _ _ p)
-
 -- ---- the other way
 
 -- What a byte that is read as a letter is.
-pub data Spelt (b : ℕ) : Letter → Type 0 where
-  of_access : {k : Access} → b ≡ access_letter k → Spelt b (Leaf k)
-  of_operator : {o : Operator} → b ≡ operator_letter o → Spelt b (Joint o)
-  of_none : Spelt b Other
+pub data Spelt (b : ℕ) : Option Letter → Type 0 where
+  of_access : {k : Access} → b ≡ access_letter k → Spelt b (Some (Leaf k))
+  of_operator : {o : Operator} → b ≡ operator_letter o → Spelt b (Some (Joint o))
+  of_none : Spelt b None
 
 pub spelt : (b : ℕ) → Spelt b (letter_of b)
 unfolding letter_of

@@ -1,5 +1,5 @@
 -- What the reader makes of a list of bytes (`reads`): a plan that was printed, or a place where it stops (`Stop`), told by the bytes before it and the byte
--- there; and how it goes on from what a plan begins with (`plan_stops`, `plan_lone`, `plan_inside`). Assumes nothing.
+-- there; and how it goes on from what a plan begins with (`plan_stops`, `plan_lone`). Assumes nothing.
 use Prim.Native.Nat.{ℕ, zero, suc, ◌+◌, ◌-◌, ◌≤◌}
 use native.Mathlib.Omega.{arith}
 use mathlib.Core.Path.{◌≡◌, refl, ap, ◌∙◌}
@@ -9,6 +9,8 @@ use mathlib.Core.Option.{Option, none, some}
 use lib.Dec.{eqb}
 use lib.ListN.{length, length-append}
 use borrow.Author.Tests.{eqb-true}
+use Rattle.std.specs.Prelude.{Some, None}
+use Rattle.std.specs.Prelude as code
 use Rattle.trace.proofs.Tests.{by_test}
 use Rattle.numbers.specs.Options.{maybe}
 use Rattle.numbers.specs.Reading.{digit, number}
@@ -20,7 +22,7 @@ use Rattle.plan.specs.Reading.{◌followed◌, resumed, closing, operands, plan_
 use Rattle.plan.specs.declared.Access.{Access}
 use Rattle.plan.specs.declared.Operator.{Operator}
 use Rattle.plan.specs.declared.Letter.{Letter}
-use Rattle.plan.specs.declared.Letter.TheVariants.{Leaf, Joint, Other}
+use Rattle.plan.specs.declared.Letter.TheVariants.{Leaf, Joint}
 use Rattle.plan.proofs.Spelling.{Spelt, of_access, of_operator, of_none, spelt}
 
 -- A plan of the grammar that nests at most `room` deep.
@@ -60,7 +62,7 @@ row_number deep = 18
 
 -- With `room` levels left, the reader takes the bytes `before` and stops at the next byte, or at the end if there is none.
 pub data Stop : Row → ℕ → List ℕ → Option ℕ → Type 0 where
-  no_letter : {room : ℕ} {h : Option ℕ} → Each (λ b. letter_of b ≡ Other) h → Stop stray room [] h
+  no_letter : {room : ℕ} {h : Option ℕ} → Each (λ b. letter_of b ≡ None) h → Stop stray room [] h
   no_digit : {room : ℕ} (k : Access) {h : Option ℕ} → Each (λ b. digit b ≡ none) h → Stop stray room (access_letter k ∷ []) h
   no_level : (o : Operator) → Stop deep zero [] (some (operator_letter o))
   no_bracket : {room : ℕ} (o : Operator) {h : Option ℕ} → Lacks 40 h → Stop stray (suc room) (operator_letter o ∷ []) h
@@ -112,8 +114,8 @@ bracket room at o s (some rest) (there e) = opens_inside (ap (λ (z : List ℕ).
 bracket room at o s none (lacking l) =
     opens_stop stray (at + 1) (operator_letter o ∷ []) s (no_bracket o l) (record { bytes = refl; place = omega arith })
 
-letter : (room at b : ℕ) (s : List ℕ) (l : Letter) → letter_of b ≡ l → Spelt b l → Opens at (b ∷ s) room (begun l room at s)
-letter room at b s (Leaf k) e (of_access f) =
+letter : (room at b : ℕ) (s : List ℕ) (l : code.Option Letter) → letter_of b ≡ l → Spelt b l → Opens at (b ∷ s) room (begun l room at s)
+letter room at b s (Some (Leaf k)) e (of_access f) =
     rw f
     (by_token (number LAST_LOCATION s)
     (λ g. rw g
@@ -123,10 +125,10 @@ letter room at b s (Leaf k) e (of_access f) =
     rw g
     (opens_lone (at + 1 + (length s - length n.1)) n.1 (leaf_right room k n.0 p.in_range) p.whole
     (record { bytes = ap (λ (z : List ℕ). access_letter k ∷ z) p.bytes; place = omega arith }))))
-letter zero at b s (Joint o) e (of_operator f) =
+letter zero at b s (Some (Joint o)) e (of_operator f) =
     rw f (opens_stop deep at [] (operator_letter o ∷ s) (no_level o) (record { bytes = refl; place = refl }))
-letter (suc room) at b s (Joint o) e (of_operator f) = rw f (bracket room at o s (past 40 s) (past_is 40 s))
-letter room at b s Other e of_none = opens_stop stray at [] (b ∷ s) (no_letter (found e)) (record { bytes = refl; place = refl })
+letter (suc room) at b s (Some (Joint o)) e (of_operator f) = rw f (bracket room at o s (past 40 s) (past_is 40 s))
+letter room at b s None e of_none = opens_stop stray at [] (b ∷ s) (no_letter (found e)) (record { bytes = refl; place = refl })
 
 pub opens : (room at : ℕ) (s : List ℕ) → Opens at s room (opening room at s)
 opens room at [] = opens_stop stray at [] [] (no_letter nothing) (record { bytes = refl; place = refl })
@@ -208,7 +210,7 @@ reads (suc room) at s =
 pub read_parts : {room at : ℕ} {s : List ℕ} {p : Plan} {end : ℕ} {rest : List ℕ} → Reads room at s (read p end rest) → Parts at s (print p) end rest
 read_parts (printed p end rest r u i) = i
 
--- ---- the three ways on from what a plan begins with
+-- ---- two ways on from what a plan begins with
 
 pub plan_stops : (room at : ℕ) (s : List ℕ) (n q : ℕ) → stops n q ≡ opening room at s → plan_at room at s ≡ refused n q
 plan_stops zero at s n q e = rw (← e)
@@ -218,8 +220,3 @@ pub plan_lone : (room at : ℕ) (s : List ℕ) (k : Access) (v end : ℕ) (rest 
     → plan_at room at s ≡ read (leaf k v) end rest
 plan_lone zero at s k v end rest e = rw (← e)
 plan_lone (suc room) at s k v end rest e = rw (← e)
-
-pub plan_inside : (room at : ℕ) (s : List ℕ) (o : Operator) (rest : List ℕ) → inside o rest ≡ opening room at s
-    → plan_at room at s ≡ operands (λ a z. plan_at (room - 1) a z) o (at + 2) rest
-plan_inside zero at s o rest e = let i = inside_of (rw (← e) at (opens zero at s)) in absurd (omega arith)
-plan_inside (suc room) at s o rest e = let n : suc room - 1 ≡ room = omega arith in rw (n, ← e)

@@ -1,6 +1,7 @@
 -- The reader of plans, left to right: what a plan begins with, then its operands. `Plans` says what is right; the theorems of `proofs/Accepts.antt` and
 -- `proofs/Refuses.antt` say that the reader takes exactly that, and where it turns a text back. `at` is the position of the list's first byte. Assumes nothing.
-use Rattle.std.specs.Prelude.{ℕ, zero, suc, ◌+◌, ◌-◌, cond, List, [], ◌∷◌, eqb, length}
+use Rattle.std.specs.Prelude.{ℕ, zero, suc, ◌+◌, ◌-◌, cond, List, [], ◌∷◌, eqb, length, Some, None}
+use Rattle.std.specs.Prelude as code
 use Rattle.std.proofs.Math.Option.{Option, none, some}
 use Rattle.numbers.specs.Options.{maybe}
 use Rattle.numbers.specs.Reading.{number}
@@ -10,15 +11,15 @@ use Rattle.plan.specs.declared.Access.TheVariants.{Read, Write, Sum}
 use Rattle.plan.specs.declared.Operator.{Operator}
 use Rattle.plan.specs.declared.Operator.TheVariants.{Series, Parallel}
 use Rattle.plan.specs.declared.Letter.{Letter}
-use Rattle.plan.specs.declared.Letter.TheVariants.{Leaf, Joint, Other}
+use Rattle.plan.specs.declared.Letter.TheVariants.{Leaf, Joint}
 
-unfoldable pub letter_of : ℕ → Letter
+unfoldable pub letter_of : ℕ → code.Option Letter
 letter_of b =
-    cond (eqb b 114) (Leaf Read)
-    (cond (eqb b 119) (Leaf Write)
-    (cond (eqb b 115) (Leaf Sum)
-    (cond (eqb b 83) (Joint Series)
-    (cond (eqb b 80) (Joint Parallel) Other))))
+    cond (eqb b 114) (Some (Leaf Read))
+    (cond (eqb b 119) (Some (Leaf Write))
+    (cond (eqb b 115) (Some (Leaf Sum))
+    (cond (eqb b 83) (Some (Joint Series))
+    (cond (eqb b 80) (Some (Joint Parallel)) None))))
 
 -- "a location 0 to 1,023"
 abbrev pub LAST_LOCATION : ℕ
@@ -36,12 +37,12 @@ pub data Opened : Type 0 where
   inside : Operator → List ℕ → Opened
 
 -- 18 is "an S or P that opens level 65", at the letter.
-abbrev pub begun : Letter → ℕ → ℕ → List ℕ → Opened
-begun (Leaf k) room at s =
+abbrev pub begun : code.Option Letter → ℕ → ℕ → List ℕ → Opened
+begun (Some (Leaf k)) room at s =
     maybe (number LAST_LOCATION s) (stops 17 (at + 1)) (λ n. lone k n.0 (at + 1 + (length s - length n.1)) n.1)
-begun (Joint o) zero at s = stops 18 at
-begun (Joint o) (suc room) at s = maybe (past 40 s) (stops 17 (at + 1)) (λ rest. inside o rest)
-begun Other room at s = stops 17 at
+begun (Some (Joint o)) zero at s = stops 18 at
+begun (Some (Joint o)) (suc room) at s = maybe (past 40 s) (stops 17 (at + 1)) (λ rest. inside o rest)
+begun None room at s = stops 17 at
 
 abbrev pub opening : ℕ → ℕ → List ℕ → Opened
 opening room at [] = stops 17 at

@@ -18,31 +18,23 @@ pub enum Operator {
     Parallel,
 }
 
-// What a byte begins: a leaf, an operator with its operands, or no plan.
+// What a byte of a plan begins: a leaf, or an operator with its operands.
 #[derive(Clone, Copy)]
 pub enum Letter {
     Leaf(Access),
     Joint(Operator),
-    Other,
 }
 
-pub fn letter_of(byte: u8) -> Letter
+#[tactic(auto, unfolding(crate::specs::Reading::letter_of))]
+pub fn letter_of(byte: u8) -> Option<Letter>
     ensures { result ≡ letter_of byte }
 {
-    if byte == b'r' {
-        return Letter::Leaf(Access::Read);
+    match byte {
+        b'r' => Some(Letter::Leaf(Access::Read)),
+        b'w' => Some(Letter::Leaf(Access::Write)),
+        b's' => Some(Letter::Leaf(Access::Sum)),
+        b'S' => Some(Letter::Joint(Operator::Series)),
+        b'P' => Some(Letter::Joint(Operator::Parallel)),
+        _ => None,
     }
-    if byte == b'w' {
-        return Letter::Leaf(Access::Write);
-    }
-    if byte == b's' {
-        return Letter::Leaf(Access::Sum);
-    }
-    if byte == b'S' {
-        return Letter::Joint(Operator::Series);
-    }
-    if byte == b'P' {
-        return Letter::Joint(Operator::Parallel);
-    }
-    Letter::Other
 }

@@ -11,14 +11,16 @@ use Rattle.plan.specs.Plans.{Plan, LEVELS, IsPlan}
 use Rattle.plan.specs.Events.{events_of}
 use Rattle.plan.proofs.Accepts.{one_plan}
 use Rattle.plan_reader.specs.Machine.{State, goes, step_of, Runs, ended, steps}
-use Rattle.plan_reader.specs.Machine.{STACK_CELLS, state_of, Stands, Goes, Went, After, Ready, Emitted}
+use Rattle.plan_reader.specs.Machine.{events_in, state_of, Goes, Went, After, Ready, Emitted}
+use Rattle.plan_reader.specs.declared.emission.Frame.{Frame}
 use Rattle.plan_reader.specs.declared.emission.Writer.{Writer}
+use Rattle.plan_reader.specs.declared.emission.Move.{Move}
 use Rattle.plan_reader.proofs.Writing.{whole_runs}
-use Rattle.plan_reader.proofs.Stepping.{SameLengths, store_all_same, frames_length, room_kept}
+use Rattle.plan_reader.proofs.Stepping.{frames_length, room_kept}
 
 -- Where the pass begins.
 abbrev pub START : Writer
-START = record { at = 0; next = 1; count = 0; actor = 0; depth = 0 }
+START = record { at = 0; depth = 0; next = 1; actor = 0 }
 
 -- ---- the machine's next step
 
@@ -55,22 +57,22 @@ stored_more b₀ b b₁ count written es e f g =
 
 -- ---- the loop
 
-pub record Stage (text : List ℕ) (b₀ : Slices) (w : Writer) (cells : List ℕ) (b : Slices) : Type 0 where
+pub record Stage (text : List ℕ) (b₀ : Slices) (w : Writer) (stack : List Frame) (count : ℕ) (b : Slices) : Type 0 where
   pub plan : Plan
   pub is_plan : IsPlan LEVELS text plan
   pub room : Room b₀ (length (events_of plan))
   pub written : List Event
   pub left : List Event
   pub all : events_of plan ≡ written ++ left
-  pub runs : Runs (drop w.at text) (state_of w cells) left
+  pub runs : Runs (drop w.at text) (state_of w stack) left
   pub within : w.at ≤ length text
   pub low : w.depth ≤ LEVELS
-  pub cells_are : length cells ≡ STACK_CELLS
-  pub count_is : w.count ≡ length written
+  pub size : length stack ≡ LEVELS
+  pub count_is : count ≡ length written
   pub slices_are : b ≡ store_all b₀ 0 written
 
-pub stage_begins : (text : List ℕ) (b : Slices) (cells : List ℕ) → Ready text b → length cells ≡ STACK_CELLS → Stage text b START cells b
-stage_begins text b cells r c =
+pub stage_begins : (text : List ℕ) (b : Slices) (stack : List Frame) → Ready text b → length stack ≡ LEVELS → Stage text b START stack 0 b
+stage_begins text b stack r c =
     let i = r.is_plan in
     record {
       plan = r.plan;
@@ -82,51 +84,49 @@ stage_begins text b cells r c =
       runs = rw (← i.printed) at (whole_runs r.plan i.in_range i.low r.tasks);
       within = omega arith;
       low = omega arith;
-      cells_are = c;
+      size = c;
       count_is = refl;
       slices_are = refl;
     }
 
-module _ (text : List ℕ) (b₀ : Slices) (w : Writer) (cells : List ℕ) (b : Slices) (s : Stage text b₀ w cells b) (byte : w.at < length text) where
-  pub stage_stands : Stands w text cells
-  stage_stands = record { byte = byte; cells_are = s.cells_are; low = s.low }
-
-  the_next : Next (drop w.at text) (state_of w cells) s.left
+module _ (text : List ℕ) (b₀ : Slices) (w : Writer) (stack : List Frame) (count : ℕ) (b : Slices) (s : Stage text b₀ w stack count b)
+    (byte : w.at < length text) where
+  the_next : Next (drop w.at text) (state_of w stack) s.left
   the_next = next s.runs (rw (length-drop w.at text) (omega arith))
 
-  pub stage_goes : Goes (step_of (drop w.at text) (state_of w cells)) w b
+  pub stage_goes : Goes (step_of (drop w.at text) (state_of w stack))
   stage_goes =
       let n = the_next in
-      let i = ap length s.all in
-      let j = length-append s.written s.left in
-      let k = ap length n.all in
-      let l = length-append n.events n.others in
-      let c = s.count_is in
-      record {
-        events = n.events;
-        rest = n.rest;
-        after = n.after;
-        is = n.is;
-        room = room_kept b₀ b 0 s.written s.slices_are s.room (omega arith);
-        few = n.few;
-        low = n.low;
-      }
+      record { events = n.events; rest = n.rest; after = n.after; is = n.is; few = n.few; low = n.low }
 
-  module _ (r : Writer) (cells₁ : List ℕ) (b₁ : Slices)
-      (went : (length cells₁ ≡ STACK_CELLS) × After (step_of (drop w.at text) (state_of w cells)) text w r cells₁ b b₁) where
-    the_went : Went text the_next.events the_next.rest the_next.after w r cells₁ b b₁
-    the_went = rw the_next.is at went.1
+  module _ (m : Move) (stack₁ : List Frame) (size : length stack₁ ≡ LEVELS)
+      (went : After (step_of (drop w.at text) (state_of w stack)) text w m stack₁) where
+    the_went : Went text the_next.events the_next.rest the_next.after w m stack₁
+    the_went = rw the_next.is at went
 
-    pub stage_falls : length text - r.at < length text - w.at
+    pub stage_falls : length text - m.after.at < length text - w.at
     stage_falls = let f = the_went.further in let g = the_went.within in omega arith
 
-    pub stage_more : Stage text b₀ r cells₁ b₁
-    stage_more =
+    -- There is room for what the step writes.
+    pub stage_room : Room b (count + length (events_in m.event))
+    stage_room =
+        let n = the_next in
+        let i = ap length s.all in
+        let j = length-append s.written s.left in
+        let k = ap length n.all in
+        let l = length-append n.events n.others in
+        let c = s.count_is in
+        let e = ap length the_went.events_are in
+        room_kept b₀ b 0 s.written s.slices_are s.room (omega arith)
+
+    pub stage_more : (count₁ : ℕ) (b₁ : Slices) → count₁ ≡ count + length (events_in m.event) → b₁ ≡ store_all b count (events_in m.event)
+        → Stage text b₀ m.after stack₁ count₁ b₁
+    stage_more count₁ b₁ counted stored =
         let n = the_next in
         let g = the_went in
         let c = s.count_is in
-        let d = g.count_is in
         let l = length-append s.written n.events in
+        let e = ap length g.events_are in
         let f = n.low in
         record {
           plan = s.plan;
@@ -137,17 +137,15 @@ module _ (text : List ℕ) (b₀ : Slices) (w : Writer) (cells : List ℕ) (b : 
           all = split_all (events_of s.plan) s.written s.left n.events n.others s.all n.all;
           runs = rw (← g.bytes, ← g.state_is) at n.runs;
           within = g.within;
-          low = let e = ap (λ (t : State). length t.frames) g.state_is in let u = frames_length cells₁ r.depth in omega arith;
-          cells_are = went.0;
+          low = let e = ap (λ (t : State). length t.frames) g.state_is in let u = frames_length stack₁ m.after.depth in omega arith;
+          size = size;
           count_is = omega arith;
-          slices_are = stored_more b₀ b b₁ w.count s.written n.events s.slices_are c g.slices_are;
+          slices_are = stored_more b₀ b b₁ count s.written n.events s.slices_are c (rw g.events_are at stored);
         }
 
-pub stage_same : (text : List ℕ) (b₀ : Slices) (w : Writer) (cells : List ℕ) (b : Slices) → Stage text b₀ w cells b → SameLengths b₀ b
-stage_same text b₀ w cells b s = rw s.slices_are (store_all_same b₀ 0 s.written)
-
-pub stage_ends : (text : List ℕ) (b₀ : Slices) (w : Writer) (cells : List ℕ) (b : Slices) → Stage text b₀ w cells b → length text ≤ w.at → Emitted text b₀ b
-stage_ends text b₀ w cells b s h p is =
+pub stage_ends : (text : List ℕ) (b₀ : Slices) (w : Writer) (stack : List Frame) (count : ℕ) (b : Slices) → Stage text b₀ w stack count b → length text ≤ w.at
+    → Emitted text b₀ b
+stage_ends text b₀ w stack count b s h p is =
     let same = one_plan text p s.plan is s.is_plan in
     let none = none_left s.runs (drop_of_length-le text h) in
     let all : events_of p ≡ s.written = ap events_of same ∙ (s.all ∙ (rw none (append-nil s.written))) in

@@ -1,27 +1,22 @@
--- The laws behind `too_large` and `translate`: which outcome each of its returns gives, and that `emit` is called where a plan was read that has room. Assumes nothing.
-use Prim.Native.Nat.{ℕ, ◌+◌, ◌≤◌, ◌<◌}
+-- The laws behind `translate`: which outcome each of its returns gives, and that `emit` is called where a plan was read that has room. Assumes nothing.
+use Prim.Native.Nat.{ℕ}
 use native.Mathlib.Omega.{arith}
 use mathlib.Core.Path.{◌≡◌, refl, sym, ◌∙◌}
 use mathlib.Core.Bool.{Bool, true, false}
 use mathlib.Core.List.{List}
-use lib.Dec.{ltb}
 use lib.ListN.{length}
-use borrow.Author.Tests.{lt-ltb, le-ltb}
-use Rattle.trace.specs.Trace.{TASKS, MAX_EVENTS}
+use Rattle.std.specs.Prelude.{Ok, Err}
 use Rattle.trace.specs.Slices.{Slices, store_all, Translated, leaving}
-use Rattle.trace.specs.Answers.{translation_reply, translated_of}
+use Rattle.trace.specs.Answers.{reply, translated_of}
 use Rattle.trace.specs.declared.Refusal.{Refusal}
-use Rattle.trace.specs.declared.Translation.TheVariants as translation
 use Rattle.plan.specs.Plans.{Plan, LEVELS, IsPlan}
 use Rattle.plan.specs.Events.{forks, events_of}
 use Rattle.plan.specs.Leaves.{events}
 use Rattle.plan.specs.Decided.{DecidedBy, TracesPlan}
 use Rattle.plan.specs.Reading.{Whole, accepted, rejected, whole}
 use Rattle.plan.specs.Tracing.{is_too_large, replied, planned}
-use Rattle.plan_reader.specs.Answers.{plan, no_plan, measured_whole, measure_of}
+use Rattle.plan_reader.specs.Answers.{plan, no_plan, measured_whole}
 use Rattle.plan_reader.specs.Machine.{Ready, Emitted}
-use Rattle.plan_reader.specs.declared.reading.Measurement.{Measurement}
-use Rattle.plan_reader.specs.declared.reading.Measurement.TheVariants as measurement
 use Rattle.plan.proofs.Accepts.{accepts_exactly}
 use Rattle.plan.proofs.EventOrder.{events_length}
 use Rattle.plan.proofs.Tracing.{traces_plan}
@@ -30,35 +25,6 @@ use Rattle.plan.proofs.Deciding.{planned_decided}
 
 never : {C : Type 0} → ◌≡◌ {A = ℕ} 0 1 → C
 never z = absurd (omega arith)
-
--- ---- `too_large`
-
-module _ (e f k t o : ℕ) where
-  pub over_tasks : TASKS ≤ f → true ≡ is_too_large e f k t o
-  unfolding is_too_large
-  over_tasks h = rw (lt-ltb TASKS (1 + f) (omega arith))
-
-  module _ (tasks : f < TASKS) where
-    few_tasks : ltb TASKS (1 + f) ≡ false
-    few_tasks = le-ltb TASKS (1 + f) (omega arith)
-
-    pub over_events : MAX_EVENTS < e → true ≡ is_too_large e f k t o
-    unfolding is_too_large
-    over_events h = rw (few_tasks, lt-ltb MAX_EVENTS e h)
-
-    module _ (events : e ≤ MAX_EVENTS) where
-      pub over_kinds : k < e → true ≡ is_too_large e f k t o
-      unfolding is_too_large
-      over_kinds h = rw (few_tasks, le-ltb MAX_EVENTS e events, lt-ltb k e h)
-
-      module _ (kinds : e ≤ k) where
-        pub over_slices : t < e → true ≡ is_too_large e f k t o
-        unfolding is_too_large
-        over_slices h = rw (few_tasks, le-ltb MAX_EVENTS e events, le-ltb k e kinds, lt-ltb t e h)
-
-        pub over_operands : e ≤ t → ltb o e ≡ is_too_large e f k t o
-        unfolding is_too_large
-        over_operands h = rw (few_tasks, le-ltb MAX_EVENTS e events, le-ltb k e kinds, le-ltb t e h)
 
 -- ---- the clauses of `translate`
 
@@ -86,25 +52,25 @@ rejected_of (rejected m o) n q h = cc
 
 leaves_plan : (w : Whole) (p : Plan) (b b₁ : Slices) (e : ℕ) → w ≡ accepted p
     → is_too_large (events p) (forks p) (length b.kinds) (length b.tasks) (length b.operands) ≡ false
-    → e ≡ length (events_of p) → b₁ ≡ store_all b 0 (events_of p) → translated_of (translation.Events e) b₁ ≡ leaving b (replied w b)
-unfolding translation_reply
+    → e ≡ length (events_of p) → b₁ ≡ store_all b 0 (events_of p) → translated_of (Ok e) b₁ ≡ leaving b (replied w b)
+unfolding reply
 leaves_plan w p b b₁ e is fitting counted stored = rw (is, fitting, counted, stored)
 
-module _ (text : List ℕ) (b : Slices) (r : Measurement) (measured : measure_of r ≡ measured_whole (whole text)) where
-  pub plan_refused : (q : Refusal) → r ≡ measurement.Refused q → translated_of (translation.Refused q) b ≡ planned text b
-  unfolding planned translation_reply
-  plan_refused q e = rw (rejected_of (whole text) q.number q.position cc)
+module _ (text : List ℕ) (b : Slices) where
+  pub plan_refused : (q : Refusal) → no_plan q.number q.position ≡ measured_whole (whole text) → translated_of (Err q) b ≡ planned text b
+  unfolding planned reply
+  plan_refused q e = rw (rejected_of (whole text) q.number q.position e)
 
-  module _ (e f : ℕ) (is : r ≡ measurement.Plan e f) (t : Bool)
+  module _ (e f : ℕ) (measured : plan e f ≡ measured_whole (whole text)) (t : Bool)
       (tested : t ≡ is_too_large e f (length b.kinds) (length b.tasks) (length b.operands)) where
     the_plan : Accepted (whole text) e f
-    the_plan = accepted_of (whole text) e f cc
+    the_plan = accepted_of (whole text) e f measured
 
     test_is : t ≡ is_too_large (events the_plan.plan_is) (forks the_plan.plan_is) (length b.kinds) (length b.tasks) (length b.operands)
     test_is = let i = the_plan.events_are in let j = the_plan.forks_are in cc
 
-    pub plan_short : t ≡ true → translated_of (translation.Refused (record { number = 19; position = 0 })) b ≡ planned text b
-    unfolding planned translation_reply
+    pub plan_short : t ≡ true → translated_of (Err (record { number = 19; position = 0 })) b ≡ planned text b
+    unfolding planned reply
     plan_short h = let g = sym test_is ∙ h in rw (the_plan.is, g)
 
     module _ (fitting : t ≡ false) where
@@ -116,7 +82,7 @@ module _ (text : List ℕ) (b : Slices) (r : Measurement) (measured : measure_of
           let k = fits the_plan.plan_is b (sym test_is ∙ fitting) in
           record { plan = the_plan.plan_is; is_plan = plan_text; tasks = k.tasks; room = k.room }
 
-      pub plan_done : (b₁ : Slices) → Emitted text b b₁ → translated_of (translation.Events e) b₁ ≡ planned text b
+      pub plan_done : (b₁ : Slices) → Emitted text b b₁ → translated_of (Ok e) b₁ ≡ planned text b
       unfolding planned
       plan_done b₁ h =
           leaves_plan (whole text) the_plan.plan_is b b₁ e the_plan.is (sym test_is ∙ fitting)

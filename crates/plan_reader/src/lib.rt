@@ -10,26 +10,15 @@ ghost use Rattle.trace.specs.Answers.{translated_of};
 ghost use Rattle.plan.specs.Decided.{DecidedBy, TracesPlan};
 ghost use Rattle.plan.specs.Tracing.{is_too_large, planned};
 
-use crate::reading::Measurement;
-use trace::{MAX_EVENTS, Refusal, TASKS, Translation};
+use crate::reading::Size;
+use trace::{MAX_EVENTS, Refusal, Row, TASKS};
 
 // Row 19: over 1,024 tasks, over 32,768 events, or a slice too short.
-fn too_large(events: usize, forks: usize, kinds: usize, tasks: usize, operands: usize) -> bool
-    ensures { result ≡ is_too_large events forks kinds tasks operands }
+fn too_large(size: Size, kinds: usize, tasks: usize, operands: usize) -> bool
+    ensures { result ≡ is_too_large size.events size.forks kinds tasks operands }
 {
-    if TASKS as usize <= forks {
-        return true;
-    }
-    if MAX_EVENTS < events {
-        return true;
-    }
-    if kinds < events {
-        return true;
-    }
-    if tasks < events {
-        return true;
-    }
-    operands < events
+    let cells = kinds.min(tasks).min(operands);
+    TASKS as usize <= size.forks || MAX_EVENTS.min(cells) < size.events
 }
 
 // The trace of a plan, and the number of its events. A refusal leaves the slices as they were.
@@ -38,25 +27,17 @@ pub fn translate(
     kinds: &mut [u8],
     tasks: &mut [u16],
     operands: &mut [u16],
-) -> Translation
+) -> Result<usize, Refusal>
     ensures outcome { translated_of result (slices kinds.new tasks.new operands.new)
         ≡ planned text.now (slices kinds.old tasks.old operands.old) }
     ensures grammar { DecidedBy text.now (slices kinds.old tasks.old operands.old)
         (translated_of result (slices kinds.new tasks.new operands.new)) }
     ensures trace { TracesPlan text.now (translated_of result (slices kinds.new tasks.new operands.new)) }
 {
-    let read = reading::measure(text);
-    match read {
-        Measurement::Refused(refusal) => Translation::Refused(refusal),
-        Measurement::Plan(events, forks) => {
-            if too_large(events, forks, kinds.len(), tasks.len(), operands.len()) {
-                return Translation::Refused(Refusal {
-                    number: 19,
-                    position: 0,
-                });
-            }
-            emission::emit(text, kinds, tasks, operands);
-            Translation::Events(events)
-        }
+    let size = reading::measure(text)?;
+    if too_large(size, kinds.len(), tasks.len(), operands.len()) {
+        return Err(Row::LargePlan.into());
     }
+    emission::emit(text, kinds, tasks, operands);
+    Ok(size.events)
 }

@@ -1,136 +1,113 @@
 // The first pass over a plan's text: is it a plan, and how many events and forks has it?
-ghost use Rattle.std.specs.Prelude.{◌≡◌, drop};
+ghost use Rattle.std.specs.Prelude.{◌≡◌, drop, IfErr};
+ghost use Rattle.trace.specs.Rows.{refusal_at};
 ghost use Rattle.plan.specs.Reading.{past, opening, plan_at, whole};
 ghost use Rattle.plan_reader.specs.Answers.{after_byte, opened_of, scanned_of, measured, measure_of, measured_whole};
 
-use numbers::NumberToken;
+use numbers::Number;
 use plan::{Access, Letter, Operator};
-use trace::{LOCATIONS, Refusal};
+use trace::{LOCATIONS, Refusal, Row};
 
 // "A plan may nest up to 64 deep".
-const LEVELS: usize = 64;
+pub const LEVELS: usize = 64;
 
 // "a location 0 to 1,023"
 pub const LAST_LOCATION: u16 = LOCATIONS - 1;
 
-// What a plan begins with: a leaf with the place after it, or an operator with the bracket after it.
+// What a plan begins with: a leaf with its location, or an operator with the bracket after it.
 #[derive(Clone, Copy)]
 pub enum Opening {
-    Stop(Refusal),
-    Leaf(Access, u16, usize),
+    Leaf(Access, Number),
     Inside(Operator),
 }
 
-// A plan's end, its events and its forks.
+// How many events and forks a plan has.
 #[derive(Clone, Copy)]
-pub enum Scanned {
-    Whole(usize, usize, usize),
-    Stopped(Refusal),
+pub struct Size {
+    pub events: usize,
+    pub forks: usize,
 }
 
-// What a whole text comes to: the numbers of its plan's events and forks, or why it is turned back.
+// A plan in the text: the place after it, and its size.
 #[derive(Clone, Copy)]
-pub enum Measurement {
-    Plan(usize, usize),
-    Refused(Refusal),
+pub struct Span {
+    pub end: usize,
+    pub size: Size,
 }
 
-// Row 17: the byte at this place cannot continue a plan.
-fn stray(at: usize) -> Refusal
-    ensures { result ≡ record { number = 17; position = at } }
+// This byte stands at `at`, where the plan cannot go on with another one.
+fn expect(text: &[u8], at: usize, byte: u8) -> Result<(), Refusal>
+    ensures rest { after_byte text.now at result ≡ past byte (drop at text.now) }
+    ensures row { IfErr result (λ r. r ≡ refusal_at Row.NoPlan at) }
 {
-    Refusal {
-        number: 17,
-        position: at,
+    match text.get(at) {
+        Some(&found) if found == byte => Ok(()),
+        _ => Err(Row::NoPlan.at(at)),
     }
 }
 
-// Whether another byte than this one, or none, stands at `at`.
-fn lacks(text: &[u8], at: usize, byte: u8) -> bool
-    ensures { after_byte text.now at result ≡ past byte (drop at text.now) }
-{
-    if text.len() <= at {
-        return true;
-    }
-    text[at] != byte
-}
-
-fn opening_at(text: &[u8], at: usize, room: usize) -> Opening
+fn opening_at(text: &[u8], at: usize, room: usize) -> Result<Opening, Refusal>
     ensures { opened_of text.now at result ≡ opening room at (drop at text.now) }
 {
-    if text.len() <= at {
-        return Opening::Stop(stray(at));
-    }
-    let letter = plan::letter_of(text[at]);
-    match letter {
+    let byte = *text.get(at).ok_or(Row::NoPlan.at(at))?;
+    match plan::letter_of(byte).ok_or(Row::NoPlan.at(at))? {
         Letter::Leaf(access) => {
-            let NumberToken::Value(location, end) = numbers::number_at(text, at + 1, LAST_LOCATION)
-            else {
-                return Opening::Stop(stray(at + 1));
-            };
-            Opening::Leaf(access, location, end)
+            let location = numbers::number_at(text, at + 1, LAST_LOCATION).ok_or(Row::NoPlan.at(
+                at + 1,
+            ))?;
+            Ok(Opening::Leaf(access, location))
         }
         Letter::Joint(operator) => {
             if room == 0 {
-                return Opening::Stop(Refusal {
-                    number: 18,
-                    position: at,
-                });
+                return Err(Row::DeepPlan.at(at));
             }
-            if lacks(text, at + 1, b'(') {
-                return Opening::Stop(stray(at + 1));
-            }
-            Opening::Inside(operator)
+            expect(text, at + 1, b'(')?;
+            Ok(Opening::Inside(operator))
         }
-        Letter::Other => Opening::Stop(stray(at)),
     }
 }
 
 // The plan at `at`, in which S and P may nest `room` deep. Of P also a fork, a halt and a join are events.
-fn scan(text: &[u8], at: usize, room: usize) -> Scanned
+fn scan(text: &[u8], at: usize, room: usize) -> Result<Span, Refusal>
     ensures { scanned_of text.now result ≡ measured (plan_at room at (drop at text.now)) }
 {
-    let opened = opening_at(text, at, room);
-    match opened {
-        Opening::Stop(refusal) => Scanned::Stopped(refusal),
-        Opening::Leaf(_, _, end) => Scanned::Whole(end, 1, 0),
+    match opening_at(text, at, room)? {
+        Opening::Leaf(_, location) => Ok(Span {
+            end: location.end,
+            size: Size {
+                events: 1,
+                forks: 0,
+            },
+        }),
         Opening::Inside(operator) => {
-            let left = scan(text, at + 2, room - 1);
-            let Scanned::Whole(comma, left_events, left_forks) = left else {
-                return left;
+            let left = scan(text, at + 2, room - 1)?;
+            expect(text, left.end, b',')?;
+            let right = scan(text, left.end + 1, room - 1)?;
+            expect(text, right.end, b')')?;
+            let events = left.size.events + right.size.events;
+            let forks = left.size.forks + right.size.forks;
+            let size = match operator {
+                Operator::Series => Size { events, forks },
+                Operator::Parallel => Size {
+                    events: 3 + events,
+                    forks: 1 + forks,
+                },
             };
-            if lacks(text, comma, b',') {
-                return Scanned::Stopped(stray(comma));
-            }
-            let right = scan(text, comma + 1, room - 1);
-            let Scanned::Whole(close, right_events, right_forks) = right else {
-                return right;
-            };
-            if lacks(text, close, b')') {
-                return Scanned::Stopped(stray(close));
-            }
-            let events = left_events + right_events;
-            let forks = left_forks + right_forks;
-            match operator {
-                Operator::Series => Scanned::Whole(close + 1, events, forks),
-                Operator::Parallel => Scanned::Whole(close + 1, 3 + events, 1 + forks),
-            }
+            Ok(Span {
+                end: right.end + 1,
+                size,
+            })
         }
     }
 }
 
 // A whole text as a plan.
-pub fn measure(text: &[u8]) -> Measurement
+pub fn measure(text: &[u8]) -> Result<Size, Refusal>
     ensures { measure_of result ≡ measured_whole (whole text.now) }
 {
-    let read = scan(text, 0, LEVELS);
-    match read {
-        Scanned::Stopped(refusal) => Measurement::Refused(refusal),
-        Scanned::Whole(end, events, forks) => {
-            if end < text.len() {
-                return Measurement::Refused(stray(end));
-            }
-            Measurement::Plan(events, forks)
-        }
+    let plan = scan(text, 0, LEVELS)?;
+    if plan.end < text.len() {
+        return Err(Row::NoPlan.at(plan.end));
     }
+    Ok(plan.size)
 }

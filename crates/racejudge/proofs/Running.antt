@@ -5,8 +5,8 @@ use native.Mathlib.Omega.{arith}
 use mathlib.Core.Path.{◌≡◌, refl, sym, ◌∙◌}
 use mathlib.Core.List.{List, [], ◌++◌, append-nil}
 use lib.ListN.{length, take}
-use Rattle.input.specs.declared.Input.{Input}
-use Rattle.input.specs.declared.Input.TheVariants.{Bytes, Failed, Arguments}
+use Rattle.std.specs.Prelude.{Result, Ok, Err}
+use Rattle.input.specs.declared.InputError.{InputError}
 use Rattle.input.specs.Reading.{Whole, full, ended, AsRead, Received}
 use Rattle.output.specs.Output.{OUTPUT_BYTES}
 use Rattle.answer.specs.Answer.{text_answer, AnswersRead}
@@ -25,12 +25,11 @@ module _ (text out after : List ℕ) (used count : ℕ) (room : length out ≡ O
   answers_input start read =
       record { read = read; answer = whole_answer read.before read.bytes read.counted read.held read.whole }
 
-pub ran : (words : ℕ) (start text out after : List ℕ) (used : ℕ) (taken : Input) → length out ≡ OUTPUT_BYTES → Received words start text taken
+pub ran : (words : ℕ) (start text out after : List ℕ) (used : ℕ) (taken : Result ℕ InputError) → length out ≡ OUTPUT_BYTES → Received words start text taken
     → Responds taken text out after used → Runs words start text taken (take used after)
-ran words start text out after used (Bytes count) room received responds =
+ran words start text out after used (Ok count) room received responds =
     record { received = received; answers = answers_input text out after used count room responds start received.1 }
-ran words start text out after used Failed room received responds = record { received = received; answers = rw responds.1 }
-ran words start text out after used Arguments room received responds = record { received = received; answers = rw responds.1 }
+ran words start text out after used (Err e) room received responds = record { received = received; answers = rw responds.1 }
 
 -- ---- what the promise decides
 
@@ -48,7 +47,6 @@ answers_text start text count output a =
     let r = a.read in
     a.answer [] (nothing_follows r.whole) ∙ rw (append-nil r.bytes, r.held)
 
-pub answers_one : (start text : List ℕ) (input : Input) (o₁ o₂ : List ℕ) → Answers start text input o₁ → Answers start text input o₂ → o₁ ≡ o₂
-answers_one start text (Bytes count) o₁ o₂ a b = answers_text start text count o₁ a ∙ sym (answers_text start text count o₂ b)
-answers_one start text Failed o₁ o₂ a b = a ∙ sym b
-answers_one start text Arguments o₁ o₂ a b = a ∙ sym b
+pub answers_one : (start text : List ℕ) (input : Result ℕ InputError) (o₁ o₂ : List ℕ) → Answers start text input o₁ → Answers start text input o₂ → o₁ ≡ o₂
+answers_one start text (Ok count) o₁ o₂ a b = answers_text start text count o₁ a ∙ sym (answers_text start text count o₂ b)
+answers_one start text (Err e) o₁ o₂ a b = a ∙ sym b

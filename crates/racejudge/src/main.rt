@@ -7,38 +7,49 @@ ghost use Rattle.answer.specs.Answer.{Counts};
 ghost use Rattle.racejudge.specs.Program.{Responds, Runs, TakenLinks, trouble_of};
 
 use answer::{OUTPUT_BYTES, TEXT_BYTES};
-use input::Input;
+use input::InputError;
 use std::env::FillError;
-use std::io;
+use std::fmt;
 use std::io::Read;
 use std::rt::Env;
 
 // What was taken in, and how many bytes of output there are.
 #[derive(Clone, Copy)]
 struct Ran {
-    taken: Input,
+    taken: Result<usize, InputError>,
     used: usize,
 }
 
 // What is told on standard error: that arguments were given, that a read failed, or that a write did.
-#[derive(Clone, Copy)]
+#[derive(Clone, Copy, PartialEq, Eq)]
 enum Trouble {
-    Nothing,
     HasArguments,
     CannotRead,
     CannotWrite,
 }
 
+impl fmt::Display for Trouble {
+    fn fmt<W: fmt::Write>(&self, f: &mut fmt::Formatter<W>) -> fmt::Result {
+        match self {
+            Trouble::HasArguments => write!(
+                f,
+                "takes no arguments; give it the trace text on standard input: racejudge < TEXT"
+            ),
+            Trouble::CannotRead => write!(f, "cannot read standard input"),
+            Trouble::CannotWrite => write!(f, "cannot write standard output"),
+        }
+    }
+}
+
 // The output for what was taken in: the answer to a text, and nothing after a failed read or with arguments.
-fn respond(taken: Input, text: &[u8; TEXT_BYTES], out: &mut [u8]) -> usize
+fn respond(taken: Result<usize, InputError>, text: &[u8; TEXT_BYTES], out: &mut [u8]) -> usize
     ensures responds { Responds taken text.now out.old out.new result }
     ensures within { Counts result out.new }
     ensures chains { TakenLinks taken text.now }
 {
     match taken {
-        Input::Bytes(count) => answer::answer_read(text, count, out),
-        Input::Failed => 0,
-        Input::Arguments => 0,
+        Ok(count) => answer::answer_read(text, count, out),
+        Err(_) => 0,
     }
 }
 
@@ -59,30 +70,19 @@ fn run<R: Read>(
 }
 
 // What is told, where `written` says whether the output was.
-fn trouble_of(taken: Input, written: bool) -> Trouble
+fn trouble_of(taken: Result<usize, InputError>, written: bool) -> Option<Trouble>
     ensures { result ≡ trouble_of taken written }
 {
     match taken {
-        Input::Arguments => Trouble::HasArguments,
-        Input::Failed => Trouble::CannotRead,
-        Input::Bytes(_) => {
+        Err(InputError::Arguments) => Some(Trouble::HasArguments),
+        Err(InputError::Failed) => Some(Trouble::CannotRead),
+        Ok(_) => {
             if written {
-                Trouble::Nothing
+                None
             } else {
-                Trouble::CannotWrite
+                Some(Trouble::CannotWrite)
             }
         }
-    }
-}
-
-fn tell(rt: &impl Eprint, trouble: Trouble) -> io::Result<()> {
-    match trouble {
-        Trouble::Nothing => Ok(()),
-        Trouble::HasArguments => eprintln!(rt;
-            "racejudge: takes no arguments; give it the trace text on standard input: racejudge < TEXT"
-        ),
-        Trouble::CannotRead => eprintln!(rt; "racejudge: cannot read standard input"),
-        Trouble::CannotWrite => eprintln!(rt; "racejudge: cannot write standard output"),
     }
 }
 
@@ -103,5 +103,7 @@ fn main(rt: HostRuntime) {
     let used = ran.used;
     let written = rt.write_all(&out[..used]).is_ok();
     let taken = ran.taken;
-    let _ = tell(&rt, trouble_of(taken, written));
+    if let Some(trouble) = trouble_of(taken, written) {
+        let _ = eprintln!(rt; "racejudge: {trouble}");
+    }
 }

@@ -3,7 +3,7 @@ use Prim.Native.Nat.{ℕ, suc, ◌+◌, ◌<◌, ◌≤◌}
 use mathlib.Core.Path.{◌≡◌, refl, sym, ap, subst, ◌∙◌}
 use mathlib.Core.Bool.{Bool, true, false, cond, not}
 use mathlib.Core.List.{List, [], ◌∷◌, tail}
-use mathlib.Core.Logic.{inl, inr, ◌≢◌}
+use mathlib.Core.Logic.{inl, inr}
 use native.Mathlib.Omega.{arith}
 use native.Mathlib.Numerals.{add-one}
 use lib.Dec.{eqb}
@@ -26,6 +26,13 @@ use Rattle.segments.proofs.SegmentCells.{link_in, Holding, holding_start, holdin
 use Rattle.stops.proofs.Standing.{stops_still, stop_read}
 use Rattle.stops.specs.Stops.{is_stop, stops_before, StopsIn}
 use Rattle.stops.proofs.Counting.{stops_grow, no_stop_left}
+use Rattle.std.specs.Prelude.{None, Some, Result, Ok, Err}
+use Rattle.trace.specs.Rows.{row_number}
+use Rattle.trace.specs.Demands.{BreaksFirst}
+use Rattle.trace.specs.Held.{held_trace, event_at}
+use Rattle.trace.specs.declared.Event as code
+use Rattle.trace.specs.declared.Trace as slices
+use Rattle.trace.specs.declared.Row.{Row}
 use Rattle.line.specs.declared.Line.{Line}
 use Rattle.line.specs.Rules.{rule_of}
 use Rattle.line.specs.Cells.{depths, started_in}
@@ -35,7 +42,7 @@ use Rattle.line.proofs.Moves.{stack_frame, line_frame, free_beyond, start_free}
 use Rattle.line.proofs.EventLaw.{own_operand, line_start}
 use Rattle.line.proofs.Events.{event_broken, event_unchanged, event_next, event_kind, event_active, event_movable, event_free}
 use Rattle.ranks.specs.Lists.{FORKS, HALTS, NEXT, SEGMENTS, source_in, pushed_in, opened_in, Openable}
-use Rattle.ranks.specs.States.{ListAt, Begun, TakeSays, ListSays}
+use Rattle.ranks.specs.States.{ListAt, Begun, AdmitSays, ListSays}
 use Rattle.ranks.proofs.Passing.{passed_over}
 use Rattle.ranks.proofs.Opening.{pushed_length, opened_length, opened_line, opened_beyond, pushed_list, Opened, open_fork, open_join, open_halt}
 
@@ -100,39 +107,39 @@ opened_as d line k g m m' f f' h h' p q r o =
 
 -- ---- the event
 
-module _ (tr : Trace) (n : ℕ) (c : List ℕ) (line : Line) (g : ℕ) (t : ListAt tr n c line g) (row : ℕ) (d : List ℕ)
-    (e : rowed (after_in line (rule_of (tr.kind n))) row d ≡ event_in c line (tr.kind n) (tr.task n) (tr.operand n)) where
+module _ (tr : Trace) (n : ℕ) (c : List ℕ) (line : Line) (g : ℕ) (t : ListAt tr n c line g) (result : Result (Unit {0}) Row) (d : List ℕ)
+    (e : rowed (after_in line (rule_of (tr.kind n))) result d ≡ event_in c line (tr.kind n) (tr.task n) (tr.operand n)) where
   abbrev next : Line
   next = after_in line (rule_of (tr.kind n))
 
   free : SameFree c d
-  free = event_free t.at (own_operand tr n) next row d e
+  free = event_free t.at (own_operand tr n) next result d e
 
   -- It breaks a rule.
-  pub list_broken : row ≢ 0 → TakeSays tr n c d line g row
-  list_broken some =
-      let unchanged = event_unchanged t.at (own_operand tr n) next row d e some in
+  pub list_broken : (row : Row) → result ≡ Err row → AdmitSays tr n c d line g (Err row)
+  list_broken row some =
+      let unchanged = event_unchanged t.at (own_operand tr n) next result d e some in
       record {
         beyond = rest_eq 0 c d unchanged;
-        kept = λ z. absurd (some z);
-        broken = λ z. (unchanged, event_broken t.at (own_operand tr n) next row d e some);
+        kept = λ z. absurd (cc);
+        broken = λ other z. (unchanged, event_broken t.at (own_operand tr n) next result d e (some ∙ z));
       }
 
-  module _ (none : row ≡ 0) where
+  module _ (none : result ≡ Ok tt) where
     at_next : LineAt halt_operand tr (suc n) d next
-    at_next = event_next t.at (own_operand tr n) next row d e none
+    at_next = event_next t.at (own_operand tr n) next result d e none
 
     some_active : 0 < line.active
-    some_active = event_active t.at (own_operand tr n) next row d e none
+    some_active = event_active t.at (own_operand tr n) next result d e none
 
     can_move : Movable line (tr.kind n)
-    can_move = event_movable t.at (own_operand tr n) next row d e none
+    can_move = event_movable t.at (own_operand tr n) next result d e none
 
     pub list_named : is_kind (tr.kind n) ≡ true
-    list_named = event_kind t.at (own_operand tr n) next row d e none
+    list_named = event_kind t.at (own_operand tr n) next result d e none
 
     -- It is an access: nothing else is stored.
-    pub list_access : is_access (tr.kind n) ≡ true → TakeSays tr n c d line g 0
+    pub list_access : is_access (tr.kind n) ≡ true → AdmitSays tr n c d line g (Ok tt)
     list_access a =
         record {
           beyond = free_beyond free;
@@ -146,7 +153,7 @@ module _ (tr : Trace) (n : ℕ) (c : List ℕ) (line : Line) (g : ℕ) (t : List
               halts = rw (segments_access tr n a) (halts_still c t d free);
             },
           );
-          broken = λ z. absurd (z refl);
+          broken = λ row z. absurd (cc);
         }
 
     -- It is a move: the next segment is put in.
@@ -231,7 +238,7 @@ module _ (tr : Trace) (n : ℕ) (c : List ℕ) (line : Line) (g : ℕ) (t : List
             same = λ i h. opened_beyond d line k g some_active few_active few_left few_g few_source i (omega arith);
           }
 
-      pub list_move : (x : List ℕ) → x ≡ opened_in d line k g → TakeSays tr n c x line g 0
+      pub list_move : (x : List ℕ) → x ≡ opened_in d line k g → AdmitSays tr n c x line g (Ok tt)
       list_move x is =
           rw is (record {
             beyond = rest_trans (free_beyond free) beyond_opened;
@@ -245,38 +252,50 @@ module _ (tr : Trace) (n : ℕ) (c : List ℕ) (line : Line) (g : ℕ) (t : List
                 halts = opened.of_halts;
               },
             );
-            broken = λ z. absurd (z refl);
+            broken = λ row z. absurd (cc);
           })
 
--- ---- as `take` has it
+-- ---- as `Front::admit` has it
 
 not-true : (b : Bool) → not b ≡ true → b ≡ false
 not-true true e = sym e
 not-true false e = refl
 
-module _ (kinds tasks operands : List ℕ) {n : ℕ} {c : List ℕ} {line : Line} {g : ℕ} (t : ListAt (trace_of kinds tasks operands) n c line g)
-    (row : ℕ) (d : List ℕ)
-    (e : rowed (after_in line (rule_of (get_or kinds n 0))) row d ≡ event_in c line (get_or kinds n 0) (get_or tasks n 0) (get_or operands n 0)) where
-  pub take_broken : row ≢ 0 → TakeSays (trace_of kinds tasks operands) n c d line g row
+module _ (trace : slices.Trace) (n : ℕ) (c : List ℕ) (line : Line) (g : ℕ) (t : ListAt (held_trace trace) n c line g)
+    (event : code.Event) (is : event ≡ event_at trace n) (result : Result (Unit {0}) Row) (d : List ℕ)
+    (e : rowed (after_in line (rule_of event.kind)) result d ≡ event_in c line event.kind event.task event.operand) where
+  abbrev tr : Trace
+  tr = held_trace trace
+
+  told : rowed (after_in line (rule_of (tr.kind n))) result d ≡ event_in c line (tr.kind n) (tr.task n) (tr.operand n)
   unfolding trace_of
-  take_broken some = list_broken (trace_of kinds tasks operands) n c line g t row d e some
+  told = rw is at e
 
-  pub take_named : row ≡ 0 → is_kind (get_or kinds n 0) ≡ true
+  same_kind : event.kind ≡ tr.kind n
   unfolding trace_of
-  take_named none = list_named (trace_of kinds tasks operands) n c line g t row d e none
+  same_kind = rw is
 
-  module _ (none : row ≡ 0) (b : Bool) (is : b ≡ not (is_access (get_or kinds n 0))) where
-    pub take_access : b ≡ false → TakeSays (trace_of kinds tasks operands) n c d line g 0
-    unfolding trace_of
-    take_access a = list_access (trace_of kinds tasks operands) n c line g t row d e none (not-false _ (sym is ∙ a))
+  pub admit_broken : (row : Row) → result ≡ Err row → AdmitSays tr n c d line g (Err row)
+  admit_broken row some = list_broken tr n c line g t result d told row some
 
-    pub take_openable : b ≡ true → Openable d line (get_or kinds n 0) g
-    unfolding trace_of
-    take_openable a = list_openable (trace_of kinds tasks operands) n c line g t row d e none (not-true _ (sym is ∙ a))
+  module _ (none : result ≡ Ok tt) where
+    pub admit_named : is_kind event.kind ≡ true
+    admit_named = rw same_kind (list_named tr n c line g t result d told none)
 
-    pub take_move : b ≡ true → (x : List ℕ) → x ≡ opened_in d line (get_or kinds n 0) g → TakeSays (trace_of kinds tasks operands) n c x line g 0
-    unfolding trace_of
-    take_move a = list_move (trace_of kinds tasks operands) n c line g t row d e none (not-true _ (sym is ∙ a))
+    module _ (b : Bool) (moves : b ≡ not (is_access event.kind)) where
+      moved : not (is_access (tr.kind n)) ≡ b
+      moved = ap (λ (k : ℕ). not (is_access k)) (sym same_kind) ∙ sym moves
+
+      pub admit_access : b ≡ false → AdmitSays tr n c d line g (Ok tt)
+      admit_access a = list_access tr n c line g t result d told none (not-false _ (moved ∙ a))
+
+      pub admit_openable : b ≡ true → Openable d line event.kind g
+      admit_openable a = rw same_kind (list_openable tr n c line g t result d told none (not-true _ (moved ∙ a)))
+
+      pub admit_move : b ≡ true → (x : List ℕ) → x ≡ opened_in d line event.kind g → AdmitSays tr n c x line g (Ok tt)
+      admit_move a x opened =
+          list_move tr n c line g t result d told none (not-true _ (moved ∙ a)) x
+          (opened ∙ ap (λ (k : ℕ). opened_in d line k g) same_kind)
 
 -- ---- the start
 
@@ -302,6 +321,9 @@ begun {entry} room started stored =
     })
 
 -- ---- the loop
+
+some_same : {row other : Row} → Some row ≡ Some other → row ≡ other
+some_same e = cc
 
 -- Before each turn the cells are those before the event that follows the last stop that was taken; k were.
 pub record Listing (tr : Trace) (n : ℕ) (entry c : List ℕ) (line : Line) (g k : ℕ) : Type 0 where
@@ -331,7 +353,7 @@ module _ {tr : Trace} {n : ℕ} {before entry c : List ℕ} {line : Line} {g k c
       let s = stop_read (stops_still (rest_trans first w.beyond) stops) w.counted h i read in
       record { inside = s.below; one_more = s.one_more ∙ ap suc w.counted; list_at = passed_over i s.from w.list_at s.quiet }
 
-  pub listing_finish : count ≤ k → ListSays tr n before c n 0
+  pub listing_finish : count ≤ k → ListSays tr n before c n None
   listing_finish h =
       let all = stops.counted in
       let now = w.counted in
@@ -345,13 +367,13 @@ module _ {tr : Trace} {n : ℕ} {before entry c : List ℕ} {line : Line} {g k c
             record {
               graph = sym (graph_all halt_operand tr n _ kept);
               none_met = λ z. (refl, record { line = _; reached = kept });
-              met = λ z. absurd (z refl);
+              met = λ row z. absurd (cc);
             };
         list = t.list;
       }
 
   module _ {i : ℕ} (at : AtStop tr n c line g k i) where
-    pub listing_turn : {exit : List ℕ} {row : ℕ} → TakeSays tr i c exit line g row → row ≡ 0 → (line' : Line) (g' : ℕ) →
+    pub listing_turn : {exit : List ℕ} {result : Result (Unit {0}) Row} → AdmitSays tr i c exit line g result → result ≡ Ok tt → (line' : Line) (g' : ℕ) →
         line' ≡ after_in line (rule_of (tr.kind i)) → g' ≡ cond (is_access (tr.kind i)) g (suc g) → Listing tr n entry exit line' g' (k + 1)
     listing_turn {exit} says none line' g' p q =
         record {
@@ -362,9 +384,10 @@ module _ {tr : Trace} {n : ℕ} {before entry c : List ℕ} {line : Line} {g k c
           list_at = rw (p, q) (says.kept none).1;
         }
 
-    pub listing_broken : {exit : List ℕ} {row : ℕ} → TakeSays tr i c exit line g row → row ≢ 0 → ListSays tr n before exit i row
-    listing_broken says some =
-        let broken = says.broken some in
+    pub listing_broken : {exit : List ℕ} {result : Result (Unit {0}) Row} → AdmitSays tr i c exit line g result → (row : Row) → result ≡ Err row →
+        ListSays tr n before exit i (Some row)
+    listing_broken says row some =
+        let broken = says.broken row some in
         let first-broken = broken.1 in
         record {
           beyond = rest_trans first (rest_trans w.beyond says.beyond);
@@ -373,15 +396,15 @@ module _ {tr : Trace} {n : ℕ} {before entry c : List ℕ} {line : Line} {g k c
                 graph =
                     sym (graph_broken halt_operand tr i n _ first-broken.line at.inside first-broken.kept_before
                     (line_more halt_operand tr i first-broken.line first-broken.kept_before ∙ first-broken.broken));
-                none_met = λ z. absurd (some z);
-                met = λ z. (at.inside, first-broken);
+                none_met = λ z. absurd (cc);
+                met = λ other z. (at.inside, subst (λ (r : Row). BreaksFirst halt_operand tr i (row_number r)) (some_same z) first-broken);
               };
           list = rw broken.0 at.list_at.list;
         }
 
 -- As the loop has it.
-module _ (kinds tasks operands : List ℕ) {c exit : List ℕ} {line : Line} {g i row : ℕ} (says : TakeSays (trace_of kinds tasks operands) i c exit line g row)
-    (none : row ≡ 0) where
+module _ (kinds tasks operands : List ℕ) {c exit : List ℕ} {line : Line} {g i : ℕ} {result : Result (Unit {0}) Row}
+    (says : AdmitSays (trace_of kinds tasks operands) i c exit line g result) (none : result ≡ Ok tt) where
   pub taken_movable : Movable line (get_or kinds i 0)
   unfolding trace_of
   taken_movable = (says.kept none).0

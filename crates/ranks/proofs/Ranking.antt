@@ -12,7 +12,6 @@ use Rattle.trace.specs.Line.{halt_operand}
 use Rattle.trace.specs.Graph.{Reach, graph_events}
 use Rattle.trace.specs.Orders.{Order, occurrences}
 use Rattle.segments.specs.Segments.{moves, segment, segments, rank}
-use Rattle.trace.proofs.Tests.{either, lt_or_le}
 use Rattle.trace.proofs.EventKinds.{access_not_join}
 use Rattle.trace.proofs.Lists.{one_if_same}
 use Rattle.trace.proofs.Lines.{graph_kept, named}
@@ -28,6 +27,8 @@ use Rattle.cells.specs.Cells.{Rest, SameBeyond}
 use Rattle.stops.specs.Stops.{Collected, StopsIn}
 use Rattle.stops.proofs.Standing.{stops_still}
 use Rattle.ranks.specs.Lists.{NEXT, SEGMENTS, Listed}
+use Rattle.std.specs.Prelude.{Option, None, Some}
+use Rattle.trace.specs.declared.Row.{Row}
 use Rattle.ranks.specs.States.{Leading, ListSays, Named, kinds_only, own_number, RankSays}
 
 -- ---- the segments ask for the kinds alone
@@ -69,19 +70,19 @@ module _ (kinds : List ℕ) where
 
 -- ---- the list
 
-module _ {tr : Trace} {n events : ℕ} {entry c : List ℕ} {row : ℕ} (says : ListSays tr n entry c events row) where
+module _ {tr : Trace} {n events : ℕ} {entry c : List ℕ} {broken : Option Row} (says : ListSays tr n entry c events broken) where
   pub moves_few : moves tr events < SEGMENTS
   moves_few =
       let kept = graph_kept halt_operand tr n in
       let few = segments_few halt_operand tr (graph_events halt_operand tr n) kept.0 kept.1 in
       rw says.rules.graph (omega arith)
 
+  within_by : (b : Option Row) → broken ≡ b → events ≤ n
+  within_by None none = let same = (says.rules.none_met none).0 in omega arith
+  within_by (Some row) some = let less = (says.rules.met row some).0 in omega arith
+
   pub events_within : events ≤ n
-  events_within =
-      either (lt_or_le n events)
-      (λ h. let zero_row : row ≡ 0 → ⊥ = λ z. let same = (says.rules.none_met z).0 in omega arith in
-      let within = (says.rules.met zero_row).0 in absurd (omega arith))
-      (λ h. h)
+  events_within = within_by broken refl
 
   module _ (room : WORKSPACE_CELLS ≤ length c) where
     pub listed : Listed c
@@ -143,8 +144,8 @@ stops_rest collected = record { long = collected.long; same = λ i h. collected.
 
 -- ---- the numbers
 
-module _ (kinds tasks operands : List ℕ) {n events : ℕ} {entry b c d : List ℕ} {row : ℕ}
-    (collected : Rest n entry b) (says : ListSays (trace_of kinds tasks operands) n b c events row) (room : WORKSPACE_CELLS + n ≤ length entry)
+module _ (kinds tasks operands : List ℕ) {n events : ℕ} {entry b c d : List ℕ} {broken : Option Row}
+    (collected : Rest n entry b) (says : ListSays (trace_of kinds tasks operands) n b c events broken) (room : WORKSPACE_CELLS + n ≤ length entry)
     (all : length kinds ≡ n) (walk : d ≡ rank_in NEXT SEGMENTS 0 0 c) where
   abbrev tr : Trace
   tr = trace_of kinds tasks operands
@@ -173,7 +174,7 @@ module _ (kinds tasks operands : List ℕ) {n events : ℕ} {entry b c d : List 
       named halt_operand tr (graph_events halt_operand tr n) kept.0 kept.1 p (omega (arith, says.rules.graph))
 
   -- Each segment's number tells its events' paths.
-  pub ranked : RankSays kinds tr n entry d events row
+  pub ranked : RankSays kinds tr n entry d events broken
   ranked =
       let value : (p : ℕ) → p < events → own_number kinds d p ≡ rank tr events p =
       λ p h. ap (λ (s : ℕ). get_or d (NEXT + s) 0) (sym (segment_kinds kinds tasks operands p))

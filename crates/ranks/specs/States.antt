@@ -1,8 +1,10 @@
 -- What the cells mean between the functions, and what the crate promises: the events of the graph, the row that the next one meets, and for each event a
 -- number that says which later ones it reaches. Assumes nothing.
-use Rattle.std.specs.Prelude.{ℕ, suc, ◌+◌, ◌<◌, ◌≤◌, ◌≡◌, true, cond, List, [], ◌≢◌, length, get_or}
+use Rattle.std.specs.Prelude.{ℕ, suc, ◌+◌, ◌<◌, ◌≤◌, ◌≡◌, true, cond, List, [], length, get_or, Option, None, Some, Result, Ok, Err}
 use Rattle.trace.specs.Trace.{Trace, trace_of, is_kind, is_access, WORKSPACE_CELLS}
 use Rattle.trace.specs.Line.{halt_operand}
+use Rattle.trace.specs.Rows.{row_number}
+use Rattle.trace.specs.declared.Row.{Row}
 use Rattle.trace.specs.Graph.{graph_events}
 use Rattle.trace.specs.Demands.{KeepsRules, BreaksFirst}
 use Rattle.segments.specs.Segments.{moves, segment, segments}
@@ -42,22 +44,22 @@ pub record Begun (entry exit : List ℕ) (line : Line) : Type 0 where
   pub list_at : (tr : Trace) → ListAt tr 0 exit line 0
 
 -- Event n keeps the rules, and then the cells are those after it; or it is the first that breaks one, and no cell changes.
-pub record TakeSays (tr : Trace) (n : ℕ) (entry exit : List ℕ) (line : Line) (g row : ℕ) : Type 0 where
+pub record AdmitSays (tr : Trace) (n : ℕ) (entry exit : List ℕ) (line : Line) (g : ℕ) (result : Result (Unit {0}) Row) : Type 0 where
   pub beyond : SameBeyond entry exit
-  pub kept : row ≡ 0 →
+  pub kept : result ≡ Ok tt →
       Movable line (tr.kind n) × ListAt tr (suc n) exit (after_in line (rule_of (tr.kind n))) (cond (is_access (tr.kind n)) g (suc g))
-  pub broken : row ≢ 0 → (exit ≡ entry) × BreaksFirst halt_operand tr n row
+  pub broken : (row : Row) → result ≡ Err row → (exit ≡ entry) × BreaksFirst halt_operand tr n (row_number row)
 
 -- All of the n events keep the rules, or those before this one do and it meets the row.
-pub record RulesSay (tr : Trace) (n events row : ℕ) : Type 0 where
+pub record RulesSay (tr : Trace) (n events : ℕ) (broken : Option Row) : Type 0 where
   pub graph : events ≡ graph_events halt_operand tr n
-  pub none_met : row ≡ 0 → (events ≡ n) × KeepsRules halt_operand tr n
-  pub met : row ≢ 0 → (events < n) × BreaksFirst halt_operand tr events row
+  pub none_met : broken ≡ None → (events ≡ n) × KeepsRules halt_operand tr n
+  pub met : (row : Row) → broken ≡ Some row → (events < n) × BreaksFirst halt_operand tr events (row_number row)
 
 -- So the rules say, and the cells hold the list of these events' segments.
-pub record ListSays (tr : Trace) (n : ℕ) (entry exit : List ℕ) (events row : ℕ) : Type 0 where
+pub record ListSays (tr : Trace) (n : ℕ) (entry exit : List ℕ) (events : ℕ) (broken : Option Row) : Type 0 where
   pub beyond : SameBeyond entry exit
-  pub rules : RulesSay tr n events row
+  pub rules : RulesSay tr n events broken
   pub list : Holding tr NEXT events exit
 
 -- ---- the numbers
@@ -87,8 +89,8 @@ pub record SegmentsIn (kinds : List ℕ) (events : ℕ) (c : List ℕ) : Type 0 
   pub zero : get_or c (NEXT + 0) 0 ≡ 0
 
 -- WHAT THE CRATE PROMISES. The numbers of the events' segments tell which events reach which.
-pub record RankSays (kinds : List ℕ) (tr : Trace) (n : ℕ) (entry exit : List ℕ) (events row : ℕ) : Type 0 where
-  pub rules : RulesSay tr n events row
+pub record RankSays (kinds : List ℕ) (tr : Trace) (n : ℕ) (entry exit : List ℕ) (events : ℕ) (broken : Option Row) : Type 0 where
+  pub rules : RulesSay tr n events broken
   pub segments_in : SegmentsIn kinds events exit
   pub numbers : Numbers tr events (own_number kinds exit)
   pub rest : Rest n entry exit

@@ -4,19 +4,20 @@
 
 ghost use Rattle.std.specs.Prelude.{◌≡◌, true, cond, ◌+◌, ◌≤◌, ◌<◌, suc, length, get_or};
 ghost use Rattle.trace.specs.Trace.{is_kind, is_access, WORKSPACE_CELLS};
-ghost use Rattle.trace.specs.Lent.{lent_trace};
-ghost use Rattle.trace.proofs.Sizes.{Sized};
+ghost use Rattle.trace.specs.Held.{HasEvent, held_trace};
+ghost use Rattle.trace.proofs.Sizes.{SizedTrace};
 ghost use Rattle.segments.specs.Segments.{moves};
 ghost use Rattle.segments.proofs.SegmentCells.{link_in, rank_in};
 ghost use Rattle.cells.specs.Cells.{NUMBER};
-ghost use Rattle.line.specs.declared.Line.{Line};
+ghost use Rattle.line.specs.Rules.{rule_of};
+ghost use Rattle.line.specs.Steps.{after_in, Movable};
 ghost use Rattle.ranks.specs.Lists.{NEXT, SEGMENTS, source_in, own_in, Readable, pushed_in, opened_in, Openable, Listed};
 ghost use Rattle.stops.specs.Stops.{StopsIn};
-ghost use Rattle.ranks.specs.States.{SomeStops, Leading, Begun, ListAt, TakeSays, ListSays};
+ghost use Rattle.ranks.specs.States.{SomeStops, Leading, Begun, ListAt, AdmitSays, ListSays};
 ghost use Rattle.ranks.specs.States.{Named, kinds_only, own_number, Spread, SegmentsIn, RankSays};
 
 use line::Line;
-use trace::{FORK, HALT, JOIN};
+use trace::{FORK, HALT, JOIN, Row, Trace};
 
 // The segments that ended in the fork of a paused task, the latest last.
 const FORKS: usize = 4096;
@@ -30,51 +31,20 @@ const NEXT: usize = 9216;
 // At most so many segments, one more than there can be.
 const SEGMENTS: u16 = 3072;
 
-// How many events the graph has, and the row that the next one meets, 0 where there is none.
+// How many events the graph has, and the row that the next one meets, if one does.
 #[derive(Clone, Copy)]
 pub struct Kept {
     pub events: usize,
-    pub row: usize,
+    pub broken: Option<Row>,
 }
 
 // The same; how many of these events, at the start, are accesses before any move, so that their number is 0; and how many stops the trace has.
 #[derive(Clone, Copy)]
 pub struct Ranked {
     pub events: usize,
-    pub row: usize,
+    pub broken: Option<Row>,
     pub leading: usize,
     pub stops: usize,
-}
-
-// The segment that a move puts the next one after, where `current` is the open one.
-fn source(ws: &[u16], line: Line, kind: u8, current: u16) -> u16
-    requires { Readable ws.now line kind }
-    ensures { result ≡ source_in ws.now line kind current }
-{
-    if kind == JOIN {
-        return ws[HALTS + line.left - 1];
-    }
-    if kind != HALT {
-        return current;
-    }
-    if 1 < line.active {
-        return ws[FORKS + line.active - 2];
-    }
-    current
-}
-
-// The open segment on the stack of its kind: a fork's or a halt's.
-fn push(ws: &mut [u16], line: Line, kind: u8, current: u16)
-    requires { Readable ws.old line kind }
-    ensures { ws.new ≡ pushed_in ws.old line kind current }
-{
-    if kind == FORK {
-        ws[FORKS + line.active - 1] = current;
-        return;
-    }
-    if kind == HALT {
-        ws[HALTS + line.left] = current;
-    }
 }
 
 // Segment x right after segment m.
@@ -85,16 +55,6 @@ fn link(ws: &mut [u16], m: u16, x: u16)
     let after = cells::cell(ws, NEXT, m);
     cells::put(ws, NEXT, x, after);
     cells::put(ws, NEXT, m, x);
-}
-
-// A move ends the open segment and opens the next.
-fn open_next(ws: &mut [u16], line: Line, kind: u8, current: u16)
-    requires { Openable ws.old line kind current }
-    ensures { ws.new ≡ opened_in ws.old line kind current }
-{
-    let m = source(ws, line, kind, current);
-    push(ws, line, kind, current);
-    link(ws, m, current + 1);
 }
 
 // The open segment after an event of this kind. It is computed, since no processor can predict where the moves are.
@@ -116,71 +76,117 @@ fn own_segment(kind: u8, current: u16) -> u16
     current + 1
 }
 
-// The starting line, and a list of segment 0 alone.
-fn begin(ws: &mut [u16]) -> Line
-    requires { WORKSPACE_CELLS ≤ length ws.old }
-    ensures { Begun ws.old ws.new result }
-{
-    let line = Line::start(ws);
-    cells::put(ws, NEXT, 0, 0);
-    line
+// The line before an event, and the segment that is open then.
+#[derive(Clone, Copy)]
+struct Front {
+    line: Line,
+    segment: u16,
 }
 
-// Event i: the row that it meets, or 0, and then the list with its segment's end.
-fn take(
-    kinds: &[u8],
-    tasks: &[u16],
-    operands: &[u16],
-    ws: &mut [u16],
-    line: Line,
-    current: u16,
-    i: usize,
-) -> usize
-    requires tasks_len { (length tasks.now ≡ length kinds.now) × (length operands.now ≡ length kinds.now) }
-    requires i_in_bounds { i < length kinds.now }
-    requires list_at { ListAt (lent_trace kinds tasks operands) i ws.old line current }
-    ensures { TakeSays (lent_trace kinds.entry tasks.entry operands.entry) i ws.old ws.new line current result }
-{
-    let kind = kinds[i];
-    let row = line::event(ws, line, kind, tasks[i], operands[i]);
-    if row != 0 {
-        return row;
+impl Front {
+    // The starting line, and a list of segment 0 alone.
+    fn start(ws: &mut [u16]) -> Self
+        requires { WORKSPACE_CELLS ≤ length ws.old }
+        ensures begun { Begun ws.old ws.new result.line }
+        ensures first { result.segment ≡ 0 }
+    {
+        let line = Line::start(ws);
+        cells::put(ws, NEXT, 0, 0);
+        Front { line, segment: 0 }
     }
-    if kinds::is_move(kind) {
-        open_next(ws, line, kind, current);
+
+    // The segment that a move puts the next one after.
+    fn source(self, ws: &[u16], kind: u8) -> u16
+        requires { Readable ws.now self.line kind }
+        ensures { result ≡ source_in ws.now self.line kind self.segment }
+    {
+        if kind == JOIN {
+            return ws[HALTS + self.line.left - 1];
+        }
+        if kind != HALT {
+            return self.segment;
+        }
+        if 1 < self.line.active {
+            return ws[FORKS + self.line.active - 2];
+        }
+        self.segment
     }
-    0
+
+    // The open segment on the stack of its kind: a fork's or a halt's.
+    fn push(self, ws: &mut [u16], kind: u8)
+        requires { Readable ws.old self.line kind }
+        ensures { ws.new ≡ pushed_in ws.old self.line kind self.segment }
+    {
+        if kind == FORK {
+            ws[FORKS + self.line.active - 1] = self.segment;
+            return;
+        }
+        if kind == HALT {
+            ws[HALTS + self.line.left] = self.segment;
+        }
+    }
+
+    // A move ends the open segment and opens the next.
+    fn open_next(self, ws: &mut [u16], kind: u8)
+        requires { Openable ws.old self.line kind self.segment }
+        ensures { ws.new ≡ opened_in ws.old self.line kind self.segment }
+    {
+        let m = self.source(ws, kind);
+        self.push(ws, kind);
+        link(ws, m, self.segment + 1);
+    }
+
+    // Event i: the row that it meets, or else the list with its segment's end.
+    fn admit(self, trace: Trace, ws: &mut [u16], i: usize) -> Result<(), Row>
+        requires has_event { HasEvent trace i }
+        requires list_at { ListAt (held_trace trace) i ws.old self.line self.segment }
+        ensures { AdmitSays (held_trace trace.entry) i ws.old ws.new self.line self.segment result }
+    {
+        let event = trace.event(i);
+        self.line.admit(ws, event)?;
+        if kinds::is_move(event.kind) {
+            self.open_next(ws, event.kind);
+        }
+        Ok(())
+    }
+
+    // After an event of this kind that met no row.
+    fn after(self, kind: u8) -> Self
+        requires movable { Movable self.line kind }
+        requires named { (self.segment < SEGMENTS) × (is_kind kind ≡ true) }
+        ensures { result ≡ record {
+          line = after_in self.line (rule_of kind);
+          segment = cond (is_access kind) self.segment (suc self.segment);
+        } }
+    {
+        Front {
+            line: self.line.after(kind),
+            segment: open_after(kind, self.segment),
+        }
+    }
 }
 
 // The stops in position order, up to the first event that breaks a rule. The events between them are accesses that keep the rules where the stops do.
-fn list_segments(
-    kinds: &[u8],
-    tasks: &[u16],
-    operands: &[u16],
-    ws: &mut [u16],
-    count: usize,
-) -> Kept
-    requires sized { Sized kinds.now tasks.now operands.now ws.old (length kinds.now) }
-    requires stops_in { StopsIn (lent_trace kinds tasks operands) (length kinds.now) ws.old count }
-    ensures { ListSays (lent_trace kinds.entry tasks.entry operands.entry) (length kinds.now)
-        ws.old ws.new result.events result.row }
+fn list_segments(trace: Trace, ws: &mut [u16], count: usize) -> Kept
+    requires sized { SizedTrace trace ws.old }
+    requires stops_in { StopsIn (held_trace trace) (length trace.kinds.now) ws.old count }
+    ensures { ListSays (held_trace trace.entry) (length trace.entry.kinds.now)
+        ws.old ws.new result.events result.broken }
 {
-    let mut line = begin(ws);
-    let mut current: u16 = 0;
-    let mut k = 0;
-    while k < count {
+    let mut front = Front::start(ws);
+    for k in 0..count {
         let i = stops::position(ws, k);
-        let row = take(kinds, tasks, operands, ws, line, current, i);
-        if row != 0 {
-            return Kept { events: i, row };
+        if let Err(row) = front.admit(trace, ws, i) {
+            return Kept {
+                events: i,
+                broken: Some(row),
+            };
         }
-        line = line::after(line, kinds[i]);
-        current = open_after(kinds[i], current);
-        k += 1;
+        front = front.after(trace.kinds[i]);
     }
     Kept {
-        events: kinds.len(),
-        row: 0,
+        events: trace.kinds.len(),
+        broken: None,
     }
 }
 
@@ -206,10 +212,8 @@ fn open_before(kinds: &[u8], p: usize) -> u16
     ensures { result ≡ moves (kinds_only kinds.now) p }
 {
     let mut current: u16 = 0;
-    let mut i = 0;
-    while i < p {
-        current = open_after(kinds[i], current);
-        i += 1;
+    for kind in &kinds[..p] {
+        current = open_after(*kind, current);
     }
     current
 }
@@ -230,12 +234,10 @@ pub fn spread(kinds: &[u8], ws: &mut [u16], events: usize)
     ensures { Spread kinds.now events ws.old ws.new }
 {
     let mut current: u16 = 0;
-    let mut p = 0;
-    while p < events {
+    for p in 0..events {
         let own = own_segment(kinds[p], current);
         ws[cells::NUMBER + p] = cells::cell(ws, NEXT, own);
         current = open_after(kinds[p], current);
-        p += 1;
     }
 }
 
@@ -270,20 +272,20 @@ pub fn open_number(ws: &[u16], current: u16) -> u16
 }
 
 // The rules over the whole trace, and the number of each segment: its place in the second order. The list of the stops stands.
-pub fn rank(kinds: &[u8], tasks: &[u16], operands: &[u16], ws: &mut [u16]) -> Ranked
-    requires { Sized kinds.now tasks.now operands.now ws.old (length kinds.now) }
-    ensures rank_says { RankSays kinds.now (lent_trace kinds.entry tasks.entry operands.entry) (length kinds.now)
-        ws.old ws.new result.events result.row }
-    ensures leading_le_events { (result.leading ≤ result.events) × Leading kinds.now result.leading }
-    ensures stops_in { StopsIn (lent_trace kinds.entry tasks.entry operands.entry) (length kinds.now) ws.new result.stops }
+pub fn rank(trace: Trace, ws: &mut [u16]) -> Ranked
+    requires { SizedTrace trace ws.old }
+    ensures rank_says { RankSays trace.entry.kinds.now (held_trace trace.entry) (length trace.entry.kinds.now)
+        ws.old ws.new result.events result.broken }
+    ensures leading_le_events { (result.leading ≤ result.events) × Leading trace.entry.kinds.now result.leading }
+    ensures stops_in { StopsIn (held_trace trace.entry) (length trace.entry.kinds.now) ws.new result.stops }
 {
-    let stops = stops::collect(kinds, tasks, operands, ws);
-    let kept = list_segments(kinds, tasks, operands, ws, stops);
-    let leading = leading(kinds, ws, stops, kept.events);
+    let stops = stops::collect(trace, ws);
+    let kept = list_segments(trace, ws, stops);
+    let leading = leading(trace.kinds, ws, stops, kept.events);
     number(ws);
     Ranked {
         events: kept.events,
-        row: kept.row,
+        broken: kept.broken,
         leading,
         stops,
     }

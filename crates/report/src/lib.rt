@@ -1,14 +1,16 @@
 // What a race at t leaves: its partner s, and two orders of the events up to t that differ only in the places of s and t. The events' numbers tell all
 // paths: of two events the earlier reaches the later exactly if its number is no larger.
+// The two buffers for them are no struct: each is stored to and copied from by itself.
 #![tactic(auto)]
 
-ghost use Rattle.std.specs.Prelude.{◌≡◌, true, ◌+◌, ◌-◌, ◌≤◌, ◌<◌, length, get_or, take};
-ghost use Rattle.std.proofs.lemmas.List.Edits.{sets};
+ghost use Rattle.std.specs.Prelude.{◌≡◌, true, ◌+◌, ◌-◌, ◌≤◌, ◌<◌, length, get_or};
 ghost use Rattle.trace.specs.Trace.{is_access, MAX_EVENTS};
 ghost use Rattle.trace.specs.Orders.{chosen};
 ghost use Rattle.cells.specs.Cells.{NUMBER};
 ghost use Rattle.report.specs.Reports.{reach_in, kinds_conflict, partner_in, Partnered, FirstPartner};
 ghost use Rattle.report.specs.Reports.{not_reach_in, of_d, others, order_in, Parted, Arranged, ReportedIn};
+
+use trace::Trace;
 
 // Whether an event of this kind is an access and conflicts with one of the kind `other`, where both have one location.
 fn conflicts(kind: u8, other: u8) -> bool
@@ -30,34 +32,32 @@ fn reaches(ws: &[u16], p: usize, e: usize) -> bool
 }
 
 // Whether event p conflicts with the access t and does not reach it. Most events have another location, so that is asked first.
-fn is_partner(kinds: &[u8], operands: &[u16], ws: &[u16], p: usize, t: usize) -> bool
-    requires p_lt_t { (p < t) × (t < length kinds.now) × (t < length operands.now) × (NUMBER + t < length ws.now) }
-    requires t_value { is_access (get_or kinds.now t 0) ≡ true }
-    ensures { result ≡ partner_in kinds.now operands.now ws.now t p }
+fn is_partner(trace: Trace, ws: &[u16], p: usize, t: usize) -> bool
+    requires p_lt_t { (p < t) × (t < length trace.kinds.now) × (t < length trace.operands.now) × (NUMBER + t < length ws.now) }
+    requires t_value { is_access (get_or trace.kinds.now t 0) ≡ true }
+    ensures { result ≡ partner_in trace.entry.kinds.now trace.entry.operands.now ws.now t p }
 {
-    if operands[p] != operands[t] {
+    if trace.operands[p] != trace.operands[t] {
         return false;
     }
-    if !conflicts(kinds[p], kinds[t]) {
+    if !conflicts(trace.kinds[p], trace.kinds[t]) {
         return false;
     }
     !reaches(ws, p, t)
 }
 
 // The first event before t that conflicts with t and does not reach it.
-fn partner(kinds: &[u8], operands: &[u16], ws: &[u16], t: usize) -> usize
-    requires t_in_bounds { (t < length kinds.now) × (t < length operands.now) × (NUMBER + t < length ws.now) }
-    requires partnered { Partnered kinds.now operands.now ws.now t }
-    ensures { FirstPartner kinds.now operands.now ws.now t result }
+fn partner(trace: Trace, ws: &[u16], t: usize) -> usize
+    requires t_in_bounds { (t < length trace.kinds.now) × (t < length trace.operands.now) × (NUMBER + t < length ws.now) }
+    requires partnered { Partnered trace.kinds.now trace.operands.now ws.now t }
+    ensures { FirstPartner trace.entry.kinds.now trace.entry.operands.now ws.now t result }
 {
-    let mut s = 0;
-    while s < t {
-        if is_partner(kinds, operands, ws, s, t) {
+    for s in 0..t {
+        if is_partner(trace, ws, s, t) {
             return s;
         }
-        s += 1;
     }
-    s
+    t
 }
 
 // Parts the events from `from` up to e: those that reach e go to `first` from cell `low` on, the others to `second` from cell `high` on. Says where the
@@ -78,8 +78,7 @@ fn partition_range(
 {
     let mut i = low;
     let mut j = high;
-    let mut p = from;
-    while p < e {
+    for p in from..e {
         if reaches(ws, p, e) {
             first[i] = p as u16;
             i += 1;
@@ -87,7 +86,6 @@ fn partition_range(
             second[j] = p as u16;
             j += 1;
         }
-        p += 1;
     }
     i
 }
@@ -103,18 +101,6 @@ fn partition(ws: &[u16], first: &mut [u16], second: &mut [u16], s: usize, t: usi
     partition_range(ws, first, second, s + 1, t, at, s - at)
 }
 
-// Copies the first n cells to the cells from `at` on.
-fn copy(from: &[u16], to: &mut [u16], at: usize, n: usize)
-    requires { (n ≤ length from.now) × (at + n ≤ length to.old) }
-    ensures { to.new ≡ sets to.old at (take n from.now) }
-{
-    let mut i = 0;
-    while i < n {
-        to[at + i] = from[i];
-        i += 1;
-    }
-}
-
 // The first order: D, then s and t, then the others. These come by way of `second`. Says where s is.
 fn arrange(ws: &[u16], first: &mut [u16], second: &mut [u16], s: usize, t: usize) -> usize
     requires s_lt_t { (s < t) × (NUMBER + t < length ws.now) × (t < MAX_EVENTS) }
@@ -124,7 +110,7 @@ fn arrange(ws: &[u16], first: &mut [u16], second: &mut [u16], s: usize, t: usize
     let at = partition(ws, first, second, s, t);
     first[at] = s as u16;
     first[at + 1] = t as u16;
-    copy(second, first, at + 2, t - 1 - at);
+    first[at + 2..t + 1].copy_from_slice(&second[..t - 1 - at]);
     at
 }
 
@@ -136,27 +122,20 @@ fn orders(ws: &[u16], first: &mut [u16], second: &mut [u16], s: usize, t: usize)
     ensures second_after { second.new ≡ order_in ws.now s t t s second.old }
 {
     let at = arrange(ws, first, second, s, t);
-    copy(first, second, 0, t + 1);
+    second[..t + 1].copy_from_slice(&first[..t + 1]);
     second[at] = t as u16;
     second[at + 1] = s as u16;
 }
 
 // The partner of t. Both orders are written.
-pub fn report(
-    kinds: &[u8],
-    operands: &[u16],
-    ws: &[u16],
-    first: &mut [u16],
-    second: &mut [u16],
-    t: usize,
-) -> usize
-    requires t_in_bounds { (t < length kinds.now) × (t < length operands.now) × (NUMBER + t < length ws.now) × (t < MAX_EVENTS) }
+pub fn report(trace: Trace, ws: &[u16], first: &mut [u16], second: &mut [u16], t: usize) -> usize
+    requires t_in_bounds { (t < length trace.kinds.now) × (t < length trace.operands.now) × (NUMBER + t < length ws.now) × (t < MAX_EVENTS) }
     requires t_in_bounds_2 { (t < length first.old) × (t < length second.old) }
-    requires partnered { Partnered kinds.now operands.now ws.now t }
-    ensures { ReportedIn kinds.now operands.now ws.now
+    requires partnered { Partnered trace.kinds.now trace.operands.now ws.now t }
+    ensures { ReportedIn trace.entry.kinds.now trace.entry.operands.now ws.now
         first.old first.new second.old second.new result t }
 {
-    let s = partner(kinds, operands, ws, t);
+    let s = partner(trace, ws, t);
     orders(ws, first, second, s, t);
     s
 }

@@ -3,6 +3,8 @@
 use Prim.Native.Nat.{ℕ, ◌<◌, ◌≤◌}
 use mathlib.Core.List.{List}
 use native.Mathlib.Omega.{arith}
+use Rattle.std.specs.Prelude.{Option}
+use Rattle.trace.specs.declared.Row.{Row}
 use lib.ListN.{length}
 use Rattle.trace.specs.Trace.{Trace, trace_of}
 use Rattle.trace.specs.Line.{halt_operand}
@@ -17,8 +19,8 @@ use Rattle.scan.specs.Numbered.{Numbered, RaceByNumber, FirstRace}
 
 -- What is asked of the cells is what `rank` leaves.
 pub numbered_ranked :
-    {kinds tasks operands entry ordered : List ℕ} {events row leading : ℕ} → Sized kinds tasks operands entry (length kinds)
-    → RankSays kinds (trace_of kinds tasks operands) (length kinds) entry ordered events row → (leading ≤ events) × Leading kinds leading
+    {kinds tasks operands entry ordered : List ℕ} {events leading : ℕ} {broken : Option Row} → Sized kinds tasks operands entry (length kinds)
+    → RankSays kinds (trace_of kinds tasks operands) (length kinds) entry ordered events broken → (leading ≤ events) × Leading kinds leading
     → Numbered kinds operands ordered leading events
 unfolding trace_of
 numbered_ranked {kinds} {tasks} {operands} lent ranked lead =

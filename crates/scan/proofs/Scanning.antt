@@ -115,6 +115,12 @@ module _ (kinds operands : List ℕ) (from events : ℕ) where
     pub scan_end : events ≤ t → Found kinds operands events start c t
     scan_end h = (record { within = s.within; none_before = s.none; race = λ i. absurd (omega arith) }, (s.beyond, s.tables))
 
+    pub scan_none : events ≤ t → Found kinds operands events start c events
+    scan_none h =
+        let within = s.within in
+        let all : t ≡ events = omega arith in
+        subst (λ (r : ℕ). Found kinds operands events start c r) all (scan_end h)
+
     -- The open segment has a cell.
     pub scan_few : current < SEGMENTS
     scan_few =

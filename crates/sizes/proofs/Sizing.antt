@@ -1,68 +1,48 @@
--- From the row that `size_row` or `order_row` answers to what the outcome says and to the sizes of what is lent: for every call over a whole trace. Assumes
--- nothing.
-use Prim.Native.Nat.{ℕ, ◌≤◌}
-use mathlib.Core.Path.{◌≡◌, refl, sym, ap, ◌∙◌}
+-- From what the checks say to what the outcome says and to the sizes of what is lent: for every call over a whole trace. Assumes nothing.
+use Prim.Native.Nat.{ℕ}
+use mathlib.Core.Path.{◌≡◌, refl, sym}
 use mathlib.Core.List.{List}
-use mathlib.Core.Logic.{◌≢◌}
-use native.Mathlib.Omega.{arith}
 use lib.ListN.{length}
-use Rattle.trace.specs.Line.{Checked, passes, fails}
+use Rattle.std.specs.Prelude.{Result, Ok, Err}
+use Rattle.trace.specs.Line.{passes, fails}
 use Rattle.trace.specs.Outcome.{sizes, order_room}
-use Rattle.trace.proofs.Sizes.{Sized, Roomy, sized, sized_first, roomy, sizes_row, order_room_row}
-use Rattle.sizes.specs.Rows.{row_of}
+use Rattle.trace.specs.Rows.{row_number}
+use Rattle.trace.specs.declared.Row.{Row}
+use Rattle.trace.proofs.Sizes.{Sized, Roomy, sized, sized_first, roomy}
+use Rattle.sizes.specs.Rows.{checked}
 
--- The row that a check meets is that by which it fails.
-row_fails : (c : Checked ℕ) (number : ℕ) → number ≡ row_of c → number ≢ 0 → c ≡ fails number
-unfolding row_of
-row_fails (passes n) number e met = absurd (met e)
-row_fails (fails k) number e met = ap {B = Checked ℕ} fails (sym e)
+module _ (kinds tasks operands workspace : List ℕ) where
+  -- `check_sizes`:
+  module _ (answer : Result (Unit {0}) Row) (e : checked (length kinds) answer ≡ sizes kinds tasks operands workspace) where
+    pub sizes_fail : (row : Row) → answer ≡ Err row → sizes kinds tasks operands workspace ≡ fails (row_number row)
+    sizes_fail row met = rw (← e, met) refl
 
--- A check by rows from 1 on that meets none passes.
-row_passes :
-    (c : Checked ℕ) (number : ℕ) → number ≡ row_of c → number ≡ 0 → ((k : ℕ) → c ≡ fails k → 1 ≤ k) → (n : ℕ) × (c ≡ passes n)
-unfolding row_of
-row_passes (passes n) number e none low = (n, refl)
-row_passes (fails k) number e none low = let h = low k refl in absurd (omega arith)
+    pub sizes_pass : answer ≡ Ok tt → sizes kinds tasks operands workspace ≡ passes (length kinds)
+    sizes_pass none = rw (← e, none) refl
 
--- `size_row`:
-module _ (kinds tasks operands workspace : List ℕ) (number : ℕ) (e : number ≡ row_of (sizes kinds tasks operands workspace)) where
-  pub sizes_fail : number ≢ 0 → sizes kinds tasks operands workspace ≡ fails number
-  sizes_fail met = row_fails _ number e met
+  pub sizes_lent : passes (length kinds) ≡ sizes kinds tasks operands workspace → Sized kinds tasks operands workspace (length kinds)
+  sizes_lent e = sized kinds tasks operands workspace (length kinds) (sym e)
 
-  module _ (none : number ≡ 0) where
-    pub sizes_pass : sizes kinds tasks operands workspace ≡ passes (length kinds)
-    sizes_pass =
-        let p = row_passes _ number e none (λ k q. (sizes_row kinds tasks operands workspace k q).0) in
-        p.1 ∙ ap {B = Checked ℕ} passes (sym (sized kinds tasks operands workspace p.0 p.1).of_kinds)
-
-    pub sizes_lent : Sized kinds tasks operands workspace (length kinds)
-    sizes_lent = sized kinds tasks operands workspace (length kinds) sizes_pass
-
-  -- Then `order_row`, if at all:
   module _ (first second : List ℕ) where
-    pub buffer_row_met : number ≢ 0 → number ≡ row_of (order_room first second (sizes kinds tasks operands workspace))
-    unfolding order_room row_of
-    buffer_row_met met = rw (sizes_fail met, order_room)
+    -- Row 4 comes after the others.
+    pub buffers_met :
+        (number : ℕ) → fails number ≡ sizes kinds tasks operands workspace
+        → fails number ≡ order_room first second (sizes kinds tasks operands workspace)
+    unfolding order_room
+    buffers_met number e = rw (← e) refl
 
-    pub buffer_row_order :
-        (room : ℕ) → number ≡ 0 → room ≡ row_of (order_room first second (passes (length kinds)))
-        → room ≡ row_of (order_room first second (sizes kinds tasks operands workspace))
-    buffer_row_order room none f = rw (sizes_pass none) f
+    -- `check_buffers`:
+    module _ (answer : Result (Unit {0}) Row) (e : checked (length kinds) answer ≡ order_room first second (sizes kinds tasks operands workspace)) where
+      pub buffers_fail : (row : Row) → answer ≡ Err row → order_room first second (sizes kinds tasks operands workspace) ≡ fails (row_number row)
+      buffers_fail row met = rw (← e, met) refl
 
--- `buffer_row`:
-module _ (kinds tasks operands workspace first second : List ℕ) (number : ℕ)
-    (e : number ≡ row_of (order_room first second (sizes kinds tasks operands workspace))) where
-  pub buffers_fail : number ≢ 0 → order_room first second (sizes kinds tasks operands workspace) ≡ fails number
-  buffers_fail met = row_fails _ number e met
+      pub buffers_pass : answer ≡ Ok tt → order_room first second (sizes kinds tasks operands workspace) ≡ passes (length kinds)
+      buffers_pass none = rw (← e, none) refl
 
-  module _ (none : number ≡ 0) where
-    pub buffers_pass : order_room first second (sizes kinds tasks operands workspace) ≡ passes (length kinds)
-    buffers_pass =
-        let p = row_passes _ number e none (λ k q. (order_room_row kinds tasks operands workspace first second k q).0) in
-        p.1 ∙ ap {B = Checked ℕ} passes (sym (sized_first kinds tasks operands workspace first second p.0 p.1).of_kinds)
-
-    pub buffers_lent : Sized kinds tasks operands workspace (length kinds) × Roomy first second (length kinds)
-    buffers_lent = (
-      sized_first kinds tasks operands workspace first second (length kinds) buffers_pass,
-      roomy kinds tasks operands workspace first second (length kinds) buffers_pass,
+    pub buffers_lent :
+        passes (length kinds) ≡ order_room first second (sizes kinds tasks operands workspace)
+        → Sized kinds tasks operands workspace (length kinds) × Roomy first second (length kinds)
+    buffers_lent e = (
+      sized_first kinds tasks operands workspace first second (length kinds) (sym e),
+      roomy kinds tasks operands workspace first second (length kinds) (sym e),
     )

@@ -1,8 +1,10 @@
--- The row that a check meets, as a number. Assumes nothing.
-use Rattle.std.specs.Prelude.{ℕ}
+-- What a check says, beside the rows of document 01. Assumes nothing.
+use Rattle.std.specs.Prelude.{ℕ, Result, Ok, Err}
 use Rattle.trace.specs.Line.{Checked, passes, fails}
+use Rattle.trace.specs.Rows.{row_number}
+use Rattle.trace.specs.declared.Row.{Row}
 
--- The row that is met, or 0.
-unfoldable pub row_of : Checked ℕ → ℕ
-row_of (passes n) = 0
-row_of (fails number) = number
+-- The rows that are asked pass, for a trace of n events, or one is met.
+abbrev pub checked : ℕ → Result (Unit {0}) Row → Checked ℕ
+checked n (Ok done) = passes n
+checked n (Err row) = fails (row_number row)

@@ -5,71 +5,66 @@
 
 ghost use Rattle.std.specs.Prelude.{◌≡◌, ◌+◌, ◌≤◌, ◌<◌, length};
 ghost use Rattle.trace.specs.Trace.{MAX_EVENTS};
-ghost use Rattle.trace.specs.Lent.{lent_trace};
-ghost use Rattle.trace.proofs.Sizes.{Sized};
+ghost use Rattle.trace.specs.Held.{held_trace};
+ghost use Rattle.trace.proofs.Sizes.{SizedTrace};
 ghost use Rattle.cells.specs.Cells.{Filled, NUMBER, number_in};
 ghost use Rattle.stops.specs.Stops.{is_stop, mark_of, stop_mark, Marks, is_marked, Collected};
 
 use cells::NUMBER;
-use trace::LOCATIONS;
+use trace::{LOCATIONS, Trace};
 
 // 1 where event p, which is not the first, is a stop, else 0; it is told whether p and the event before it are accesses. Each `&` asks both its sides: `&&`
-// would branch.
-fn stop_at(accesses: bool, tasks: &[u16], operands: &[u16], p: usize) -> u16
-    requires { (0 < p) × (p < length tasks.now) × (p < length operands.now) }
-    ensures { result ≡ stop_mark accesses tasks.now operands.now p }
+// would branch. It is no bool, since `gather` adds it up.
+fn stop_at(accesses: bool, trace: Trace, p: usize) -> u16
+    requires { (0 < p) × (p < length trace.tasks.now) × (p < length trace.operands.now) }
+    ensures { result ≡ stop_mark accesses trace.entry.tasks.now trace.entry.operands.now p }
 {
-    let quiet = accesses & (tasks[p] == tasks[p - 1]) & (operands[p] < LOCATIONS);
-    !quiet as u16
+    let quiet = accesses & (trace.tasks[p] == trace.tasks[p - 1]) & (trace.operands[p] < LOCATIONS);
+    u16::from(!quiet)
 }
 
 // Marks each event by 1 where it is a stop, else by 0, in the cell where its number will stand. Whether an event is an access is asked once and kept for the
 // next one.
-fn mark(kinds: &[u8], tasks: &[u16], operands: &[u16], ws: &mut [u16])
-    requires { Sized kinds.now tasks.now operands.now ws.old (length kinds.now) }
-    ensures { Filled NUMBER (length kinds.now) (mark_of (is_stop (lent_trace kinds.entry tasks.entry operands.entry)))
-        ws.old ws.new }
+fn mark(trace: Trace, ws: &mut [u16])
+    requires { SizedTrace trace ws.old }
+    ensures { Filled NUMBER (length trace.entry.kinds.now) (mark_of (is_stop (held_trace trace.entry))) ws.old ws.new }
 {
-    if kinds.len() == 0 {
+    if trace.kinds.is_empty() {
         return;
     }
     ws[NUMBER] = 1;
-    let mut previous = kinds::is_access(kinds[0]);
-    let mut p = 1;
-    while p < kinds.len() {
-        let access = kinds::is_access(kinds[p]);
-        ws[NUMBER + p] = stop_at(previous & access, tasks, operands, p);
+    let mut previous = kinds::is_access(trace.kinds[0]);
+    for p in 1..trace.kinds.len() {
+        let access = kinds::is_access(trace.kinds[p]);
+        ws[NUMBER + p] = stop_at(previous & access, trace, p);
         previous = access;
-        p += 1;
     }
 }
 
 // Puts the positions of the events that are marked by 1 in place of the first marks, and says how many they are. Each position is stored, and the next one
 // in its place where it is that of no stop.
+#[tactic(auto, using(crate::proofs::Collecting::collected_below))]
 fn gather(ws: &mut [u16], n: usize) -> usize
     requires n_bound { (n ≤ MAX_EVENTS) × (NUMBER + n ≤ length ws.old) }
     requires marks { Marks n ws.old }
     ensures { Collected (is_marked ws.old) n ws.old ws.new result }
 {
     let mut count: usize = 0;
-    let mut p = 0;
-    while p < n {
+    for p in 0..n {
         let stop = ws[NUMBER + p];
         ws[NUMBER + count] = p as u16;
         count += stop as usize;
-        p += 1;
     }
     count
 }
 
 // Puts the positions of the stops in the cells from NUMBER on, and says how many they are.
-pub fn collect(kinds: &[u8], tasks: &[u16], operands: &[u16], ws: &mut [u16]) -> usize
-    requires { Sized kinds.now tasks.now operands.now ws.old (length kinds.now) }
-    ensures { Collected (is_stop (lent_trace kinds.entry tasks.entry operands.entry)) (length kinds.now)
-        ws.old ws.new result }
+pub fn collect(trace: Trace, ws: &mut [u16]) -> usize
+    requires { SizedTrace trace ws.old }
+    ensures { Collected (is_stop (held_trace trace.entry)) (length trace.entry.kinds.now) ws.old ws.new result }
 {
-    mark(kinds, tasks, operands, ws);
-    gather(ws, kinds.len())
+    mark(trace, ws);
+    gather(ws, trace.kinds.len())
 }
 
 // The position of stop k.

@@ -1,17 +1,16 @@
 // Runs for the links of document 02's K2, each with their number, drawn by hand: short ones, in which a wrong table of joins gives another number, as a table
 // like that of document 01's runs; and ones whose chains are as long as they get.
+use crate::Reply;
 use crate::large::put_one;
 use crate::table::read_table;
-use crate::{CLEAN, RACE, REFUSED, Reply, make_reply};
-use test_cells::{more, plus};
-use test_samples::events::{FORK, HALT, READ, WRITE};
+use test_samples::events::Kind;
 use test_samples::make_tree;
 
 // In the comments a tree stands in parentheses: its top, then what hangs under that. (0 1 (2 3)) is 0 with 1 and 2 under it, and 3 under 2: 2 links from 3 to
 // the top. Answers how many cells the table has, as read_table does.
-pub fn read_runs(cells: &mut [u16]) -> usize {
+pub fn read_runs(cells: &mut [u16]) -> Option<usize> {
     read_table(
-        b"
+        "
 # the joiner is in the smaller tree: 0 joins (1 2), which makes (1 2 0). 2 if the joiner's top always stayed
 6 0 CLEAN 0 0 1: 0 fork 1, 1 fork 2, 2 halt 1, 1 join 2, 1 halt 0, 0 join 1
 # the joined is no top: 0 joins 1 of (2 3 1), which makes (2 3 1 0). 2 if 0 hung under 1
@@ -66,57 +65,77 @@ pub struct Laid {
     pub want: Reply,
 }
 
-pub fn make_laid(events: usize, want: Reply) -> Laid {
-    Laid { events, want }
-}
-
-// So many tasks, a power of two with this exponent.
-fn lay_tree(events: &mut [u16], tasks: usize, exponent: usize) -> Laid {
-    make_laid(
-        make_tree(events, tasks, 0),
-        make_reply(CLEAN, 0, 0, exponent),
-    )
-}
-
 // Task 1,023 writes location 0 and is not joined; then comes the tree of 512 tasks, which makes 9 links. Answers the number of events.
 fn lay_write_and_tree(events: &mut [u16]) -> usize {
-    put_one(events, 0, 0, FORK, 1023);
-    put_one(events, 1, 1023, WRITE, 0);
-    put_one(events, 2, 1023, HALT, 0);
+    put_one(events, 0, 0, Kind::Fork, 1023);
+    put_one(events, 1, 1023, Kind::Write, 0);
+    put_one(events, 2, 1023, Kind::Halt, 0);
     make_tree(events, 512, 3)
 }
 
-// At the end task 0 reads location 0. There are 0 links at s, and 9 at t.
+// The traces whose chains are as long as they get, or nearly.
+#[derive(Clone, Copy)]
+pub enum Long {
+    // Two to the power of so many tasks.
+    Tree(u8),
+    // At the end task 0 reads location 0. There are 0 links at s, and 9 at t.
+    Race,
+    // At the end an event breaks a rule: "with a refusal, 0".
+    Refusal,
+    // Task 256 writes location 0, once the 255 before it are joined. The joins after t, by which there are 9 links, are not looked at.
+    EarlyRace,
+}
+
+impl Long {
+    pub const ALL: [Long; 6] = [
+        Long::Tree(8),
+        Long::Tree(9),
+        Long::Tree(10),
+        Long::Race,
+        Long::Refusal,
+        Long::EarlyRace,
+    ];
+
+    pub fn lay(self, events: &mut [u16]) -> Laid {
+        match self {
+            Long::Tree(exponent) => lay_tree(events, exponent),
+            Long::Race => lay_race(events),
+            Long::Refusal => lay_refusal(events),
+            Long::EarlyRace => lay_early_race(events),
+        }
+    }
+}
+
+fn lay_tree(events: &mut [u16], exponent: u8) -> Laid {
+    Laid {
+        events: make_tree(events, 1 << (exponent % 64), 0),
+        want: Reply::clean(exponent.into()),
+    }
+}
+
 fn lay_race(events: &mut [u16]) -> Laid {
     let t = lay_write_and_tree(events);
-    put_one(events, t, 0, READ, 0);
-    make_laid(more(t), make_reply(RACE, 1, t, 9))
+    put_one(events, t, 0, Kind::Read, 0);
+    Laid {
+        events: t.wrapping_add(1),
+        want: Reply::race(1, t, 9),
+    }
 }
 
-// At the end an event breaks a rule: "with a refusal, 0".
 fn lay_refusal(events: &mut [u16]) -> Laid {
     let p = lay_write_and_tree(events);
-    put_one(events, p, 0, WRITE, 1024);
-    make_laid(more(p), make_reply(plus(REFUSED, 8), p, 0, 0))
+    put_one(events, p, 0, Kind::Write, 1024);
+    Laid {
+        events: p.wrapping_add(1),
+        want: Reply::refused(8, p),
+    }
 }
 
-// Task 256 writes location 0, once the 255 before it are joined. The joins after t, by which there are 9 links, are not looked at.
 fn lay_early_race(events: &mut [u16]) -> Laid {
     let n = lay_write_and_tree(events);
-    put_one(events, 1024, 256, WRITE, 0);
-    make_laid(n, make_reply(RACE, 1, 1024, 8))
-}
-
-pub const LONG: usize = 6;
-
-// Lays out one of the traces whose chains are as long as they get, or nearly.
-pub fn lay_long(events: &mut [u16], i: usize) -> Laid {
-    match i {
-        0 => lay_tree(events, 256, 8),
-        1 => lay_tree(events, 512, 9),
-        2 => lay_tree(events, 1024, 10),
-        3 => lay_race(events),
-        4 => lay_refusal(events),
-        _ => lay_early_race(events),
+    put_one(events, 1024, 256, Kind::Write, 0);
+    Laid {
+        events: n,
+        want: Reply::race(1, 1024, 8),
     }
 }

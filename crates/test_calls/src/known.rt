@@ -1,17 +1,18 @@
 // The runs that document 01 tells, and those for the halts of document 02's K6, as a table: each trace with its answer and its links, and with both orders where
 // they are told. Document 01 tells no links: they are drawn by hand from document 02's K2. Where it has kind 5 it is read with kind 6, as K3 says.
 use crate::table::read_table;
-use crate::{REFUSED, Reply, make_reply};
-use test_cells::{get, get_word, more, plus};
+use crate::{Case, Reply};
+use test_cells::get;
+use test_slow::{Memory, ROOM};
 
 // How many cells stand before the events of a run.
 pub const HEAD: usize = 6;
 
 // Of each run: how many events, how many cells of each order are told, the answer with its two numbers and the links; then the events, and then the two orders.
 // Answers how many cells the table has, as read_table does.
-pub fn read_runs(cells: &mut [u16]) -> usize {
+pub fn read_runs(cells: &mut [u16]) -> Option<usize> {
     read_table(
-        b"
+        "
 # no events
 0 0 CLEAN 0 0 0
 # '0 write 1023', and with 1024
@@ -85,9 +86,9 @@ pub fn read_runs(cells: &mut [u16]) -> usize {
 
 // Runs told wrong: the answer, a cell of the first order, a cell of the second; the links of a clean trace and of a race, too many and too few; links beside a
 // refusal; and what a judge would answer that takes sums for something else, or what a halt names.
-pub fn read_wrong_runs(cells: &mut [u16]) -> usize {
+pub fn read_wrong_runs(cells: &mut [u16]) -> Option<usize> {
     read_table(
-        b"
+        "
 5 5 RACE 2 4 0: 0 fork 1, 1 write 5, 1 write 5, 1 halt 0, 0 read 5; 0 1 4 2 3; 0 4 1 2 3
 5 5 RACE 1 4 0: 0 fork 1, 1 write 5, 1 write 5, 1 halt 0, 0 read 5; 1 1 4 2 3; 0 4 1 2 3
 5 5 RACE 1 4 0: 0 fork 1, 1 write 5, 1 write 5, 1 halt 0, 0 read 5; 0 1 4 2 3; 0 4 1 2 4
@@ -132,58 +133,50 @@ pub fn read_wrong_runs(cells: &mut [u16]) -> usize {
     )
 }
 
-// The answer that the table tells of the run at a cell.
+// The answer that the table tells of the run at a cell. One that has no word for it is no answer.
 pub fn told(cells: &[u16], at: usize) -> Reply {
-    let verdict = get(cells, plus(at, 2));
-    let x = get(cells, plus(at, 3));
-    let y = get(cells, plus(at, 4));
-    let links = get(cells, plus(at, 5));
-    if verdict == REFUSED {
-        return make_reply(plus(REFUSED, x), y, 0, links);
+    let told = |i: usize| get(cells, at.wrapping_add(i));
+    Reply {
+        case: Case::of(told(2)).unwrap_or(Case::Slow),
+        a: told(3),
+        b: told(4),
+        links: told(5),
     }
-    make_reply(verdict, x, y, links)
 }
 
 // How many cells n events have.
 pub fn cells_of(n: usize) -> usize {
-    plus(n, plus(n, n))
+    n.wrapping_mul(3)
 }
 
-// Where the orders of the run at a cell stand in the table.
-fn orders_at(cells: &[u16], at: usize) -> usize {
-    plus(at, plus(HEAD, cells_of(get(cells, at))))
+// Where that stands in the table which is told behind the events of the run at a cell.
+pub fn behind_events(cells: &[u16], at: usize) -> usize {
+    let events = cells_of(get(cells, at));
+    at.wrapping_add(HEAD).wrapping_add(events)
 }
 
-// How many cells both orders have.
-fn orders_count(cells: &[u16], at: usize) -> usize {
-    let m = get(cells, more(at));
-    plus(m, m)
+// How many cells of each order are told.
+fn orders_told_of(cells: &[u16], at: usize) -> usize {
+    get(cells, at.wrapping_add(1))
 }
 
 // Where the run behind the one at a cell stands.
 pub fn next_run(cells: &[u16], at: usize) -> usize {
-    plus(orders_at(cells, at), orders_count(cells, at))
+    let orders = orders_told_of(cells, at).wrapping_mul(2);
+    behind_events(cells, at).wrapping_add(orders)
 }
 
-// Whether n cells of the table are those of the memory from a place on.
-pub fn cells_told(cells: &[u16], from: usize, n: usize, place: usize, memory: &[usize]) -> bool {
-    let mut i = 0;
-    while i < n {
-        if get(cells, plus(from, i)) != get_word(memory, plus(place, i)) {
-            return false;
-        }
-        i += 1;
-    }
-    true
+// Whether the cells of the table from a place on are these.
+pub fn cells_told(cells: &[u16], from: usize, these: &[u16]) -> bool {
+    cells
+        .get(from..)
+        .is_some_and(|told| told.starts_with(these))
 }
 
-// Whether the slow judge's two orders are those that the table tells of the run at a cell.
-pub fn orders_told(cells: &[u16], at: usize, memory: &[usize]) -> bool {
-    cells_told(
-        cells,
-        orders_at(cells, at),
-        orders_count(cells, at),
-        test_slow::ORDERS,
-        memory,
-    )
+// Whether the first cells of the memory, so many as are told, are what the table tells of the run at a cell: the two orders, or the earlier and the later positions.
+pub fn orders_told(cells: &[u16], at: usize, memory: &Memory) -> bool {
+    let m = orders_told_of(cells, at).min(ROOM);
+    let from = behind_events(cells, at);
+    cells_told(cells, from, &memory.first[..m])
+        & cells_told(cells, from.wrapping_add(m), &memory.second[..m])
 }

@@ -1,15 +1,15 @@
 // Rows 1 to 4 of document 01's table, as a table of the lengths of slices.
-use crate::table::{read_table, rows};
-use crate::{CLEAN, REFUSED, Reply, make_reply};
-use test_cells::{get, plus};
+use crate::Reply;
+use crate::table::read_rows;
+use test_cells::get;
 use test_slow::Sizes;
 
 const CELLS: usize = 7;
 
-// Of each run the lengths of the six slices, and the row by which it is refused, or 0. Answers how many runs there are, 0 if the cells are too few for them.
-pub fn read_runs(cells: &mut [u16]) -> usize {
-    let count = read_table(
-        b"
+// Of each run the lengths of the six slices, and the row by which it is refused, or 0. Answers how many runs there are, as read_rows does.
+pub fn read_runs(cells: &mut [u16]) -> Option<usize> {
+    read_rows(
+        "
 # kinds 2, tasks 3, operands 3, and the like
 2 3 3 12300 3 3: 1
 3 2 3 12300 3 3: 1
@@ -42,12 +42,12 @@ pub fn read_runs(cells: &mut [u16]) -> usize {
 4 4 4 13000 90 4: 0
 ",
         cells,
-    );
-    rows(count, CELLS)
+        CELLS,
+    )
 }
 
 fn at(cells: &[u16], run: usize, i: usize) -> usize {
-    get(cells, plus((run % 65536) * CELLS, i))
+    get(cells, ((run % 65536) * CELLS).wrapping_add(i))
 }
 
 pub fn lengths(cells: &[u16], run: usize) -> Sizes {
@@ -61,9 +61,10 @@ pub fn lengths(cells: &[u16], run: usize) -> Sizes {
     }
 }
 
-// The judge's answer. All events are reads by task 0, and with no join there are no links.
-pub fn told(cells: &[u16], run: usize) -> Reply {
-    let row = at(cells, run, 6);
-    let case = if row == 0 { CLEAN } else { plus(REFUSED, row) };
-    make_reply(case, 0, 0, 0)
+// What a call answers that answers so where it is not refused, of the judge that there are no links: all events are reads by task 0, and none is a join.
+pub fn told(cells: &[u16], run: usize, passed: Reply) -> Reply {
+    match at(cells, run, 6) {
+        0 => passed,
+        row => Reply::refused(row, 0),
+    }
 }

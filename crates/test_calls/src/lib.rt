@@ -13,155 +13,237 @@ pub mod plants;
 pub mod sums;
 pub mod table;
 
-use test_cells::plus;
-use test_slow::Sizes;
+use test_slow::events::Trace;
 use test_slow::rules::Halts;
-use trace::{Answer, Ordering, Refusal};
+use test_slow::{Memory, Sizes};
 
-// An answer in numbers. The case is CLEAN, RACE or REFUSED + number for the judge, YES, NO or REFUSED + number for the ordering call, and LISTED or REFUSED +
-// number for the list of pairs. The links are 0 where the answer has none.
-#[derive(Clone, Copy)]
+// ---- answers
+
+// What is answered: by the judge, by the ordering call, by the list of pairs, by the conversion, and by all of them.
+#[derive(Clone, Copy, PartialEq, Eq)]
+pub enum Case {
+    Clean,
+    Race,
+    Yes,
+    No,
+    Listed,
+    Converted,
+    Refused,
+    // Not yet known: the slow call is to say it. The links that stand with it are added to its own: so many too many are expected, on purpose.
+    Slow,
+}
+
+impl Case {
+    pub const ALL: [Case; 8] = [
+        Case::Clean,
+        Case::Race,
+        Case::Yes,
+        Case::No,
+        Case::Listed,
+        Case::Converted,
+        Case::Refused,
+        Case::Slow,
+    ];
+
+    // What stands in a table's cell as this number.
+    pub fn of(number: usize) -> Option<Case> {
+        Case::ALL.get(number).copied()
+    }
+}
+
+// An answer, or what a table tells in the place of one, which may be wrong on purpose. The numbers are the positions of a race, the row and the position of a refusal,
+// and how many pairs are listed; they and the links are 0 where the answer has none.
+#[derive(Clone, Copy, PartialEq, Eq)]
 pub struct Reply {
-    pub case: usize,
+    pub case: Case,
     pub a: usize,
     pub b: usize,
     pub links: usize,
 }
 
-pub const CLEAN: usize = 0;
+impl Reply {
+    pub fn clean(links: usize) -> Reply {
+        Reply {
+            case: Case::Clean,
+            a: 0,
+            b: 0,
+            links,
+        }
+    }
 
-pub const RACE: usize = 1;
+    pub fn race(s: usize, t: usize, links: usize) -> Reply {
+        Reply {
+            case: Case::Race,
+            a: s,
+            b: t,
+            links,
+        }
+    }
 
-pub const YES: usize = 0;
+    // "with a refusal, 0"
+    pub fn refused(row: usize, position: usize) -> Reply {
+        Reply {
+            case: Case::Refused,
+            a: row,
+            b: position,
+            links: 0,
+        }
+    }
 
-pub const NO: usize = 1;
+    pub fn slow() -> Reply {
+        Reply {
+            case: Case::Slow,
+            a: 0,
+            b: 0,
+            links: 0,
+        }
+    }
 
-pub const LISTED: usize = 0;
+    // The number of the row by which this refuses, if it does.
+    pub fn row(self) -> Option<usize> {
+        (self.case == Case::Refused).then_some(self.a)
+    }
+}
 
-pub const REFUSED: usize = 2;
+impl From<trace::Verdict> for Reply {
+    fn from(verdict: trace::Verdict) -> Reply {
+        match verdict {
+            trace::Verdict::Clean { links } => Reply::clean(links),
+            trace::Verdict::Race { s, t, links } => Reply::race(s, t, links),
+        }
+    }
+}
 
-// Not yet known: the slow judge is to say it. The links that stand with it are added to its own: so many too many are expected, on purpose.
-pub const UNTOLD: usize = 62;
+impl From<test_slow::Verdict> for Reply {
+    fn from(verdict: test_slow::Verdict) -> Reply {
+        match verdict {
+            test_slow::Verdict::Clean { links } => Reply::clean(links),
+            test_slow::Verdict::Race { s, t, links } => Reply::race(s, t, links),
+        }
+    }
+}
+
+// Of the ordering call.
+impl From<bool> for Reply {
+    fn from(reaches: bool) -> Reply {
+        Reply {
+            case: if reaches { Case::Yes } else { Case::No },
+            a: 0,
+            b: 0,
+            links: 0,
+        }
+    }
+}
+
+impl From<trace::Refusal> for Reply {
+    fn from(refusal: trace::Refusal) -> Reply {
+        Reply::refused(refusal.number, refusal.position)
+    }
+}
+
+impl From<test_slow::rows::Refusal> for Reply {
+    fn from(refusal: test_slow::rows::Refusal) -> Reply {
+        Reply::refused(refusal.number(), refusal.position)
+    }
+}
+
+// What a call answers, fast or slow.
+pub fn reply_of<A: Into<Reply>, R: Into<Reply>>(answer: Result<A, R>) -> Reply {
+    match answer {
+        Ok(answer) => answer.into(),
+        Err(refusal) => refusal.into(),
+    }
+}
 
 // The answer, or a cell, is not as it must be.
-pub const MISMATCH: usize = 63;
+#[derive(Clone, Copy, PartialEq, Eq)]
+pub struct Mismatch;
 
-pub fn make_reply(case: usize, a: usize, b: usize, links: usize) -> Reply {
-    Reply { case, a, b, links }
-}
+pub type Answer = Result<Reply, Mismatch>;
 
-// "with a refusal, 0"
-pub fn reply_of_refusal(refusal: Refusal) -> Reply {
-    make_reply(plus(REFUSED, refusal.number), refusal.position, 0, 0)
-}
-
-pub fn reply_of_answer(answer: Answer) -> Reply {
-    match answer {
-        Answer::Clean(links) => make_reply(CLEAN, 0, 0, links),
-        Answer::Race(s, t, links) => make_reply(RACE, s, t, links),
-        Answer::Refused(refusal) => reply_of_refusal(refusal),
+// The reply of a call if it is the wanted one and the cells are as wanted too.
+pub fn reply_held(reply: Reply, want: Reply, cells: bool) -> Answer {
+    if reply == want && cells {
+        Ok(reply)
+    } else {
+        Err(Mismatch)
     }
 }
 
-pub fn reply_of_ordering(ordering: Ordering) -> Reply {
-    match ordering {
-        Ordering::Yes => make_reply(YES, 0, 0, 0),
-        Ordering::No => make_reply(NO, 0, 0, 0),
-        Ordering::Refused(refusal) => reply_of_refusal(refusal),
-    }
+// ---- calls
+
+// What can be expected wrong: a cell of a buffer that a call is lent. Of the judge with cards also a field of a card, whose cell is the location; and how many cards
+// are due. Of the conversion the operands.
+#[derive(Clone, Copy, PartialEq, Eq)]
+pub enum Buffer {
+    Workspace = 1,
+    First = 2,
+    Second = 3,
+    Reads = 4,
+    Writes = 5,
+    Sums = 6,
+    Earliest = 7,
+    Latest = 8,
+    Due = 9,
+    Operands = 10,
 }
 
-pub fn same_reply(x: Reply, y: Reply) -> bool {
-    if x.case != y.case {
-        return false;
+impl Buffer {
+    // What stands in a table's cell as this number. None is 0.
+    pub fn of(number: usize) -> Option<Buffer> {
+        match number {
+            1 => Some(Buffer::Workspace),
+            2 => Some(Buffer::First),
+            3 => Some(Buffer::Second),
+            4 => Some(Buffer::Reads),
+            5 => Some(Buffer::Writes),
+            6 => Some(Buffer::Sums),
+            7 => Some(Buffer::Earliest),
+            8 => Some(Buffer::Latest),
+            9 => Some(Buffer::Due),
+            10 => Some(Buffer::Operands),
+            _ => None,
+        }
     }
-    if x.a != y.a {
-        return false;
-    }
-    if x.b != y.b {
-        return false;
-    }
-    x.links == y.links
-}
-
-// The reply of a call if it is the wanted one and the cells are as wanted too, else MISMATCH.
-pub fn reply_held(reply: Reply, want: Reply, cells: bool) -> Reply {
-    if same_reply(reply, want) & cells {
-        return reply;
-    }
-    make_reply(MISMATCH, 0, 0, 0)
 }
 
 // A cell of a buffer that is expected wrong, on purpose: the comparison must notice it.
-#[derive(Clone, Copy)]
+#[derive(Clone, Copy, PartialEq, Eq)]
 pub struct Plant {
-    pub buffer: usize,
+    pub buffer: Buffer,
     pub cell: usize,
 }
 
-pub const NO_BUFFER: usize = 0;
-
-pub const WORKSPACE: usize = 1;
-
-pub const FIRST: usize = 2;
-
-pub const SECOND: usize = 3;
-
-// Of the judge with cards also a field of a card, whose cell is the location; and how many cards are due.
-pub const READS: usize = 4;
-
-pub const WRITES: usize = 5;
-
-pub const SUMS: usize = 6;
-
-pub const EARLIEST: usize = 7;
-
-pub const LATEST: usize = 8;
-
-pub const DUE: usize = 9;
-
-// Of the conversion the operands.
-pub const OPERANDS: usize = 10;
-
-// A call: of the judge, or of the ordering call for p and q; how many cells it is lent; a salt for the dirt; and what must come of it, where that is told.
+// A call: of the judge, or of the ordering call for two positions; how many cells it is lent; a salt for the dirt; and what must come of it, where that is told.
 #[derive(Clone, Copy)]
 pub struct Call {
-    pub ordering: bool,
-    pub p: usize,
-    pub q: usize,
+    pub asked: Option<(usize, usize)>,
     pub sizes: Sizes,
     pub salt: usize,
     pub want: Reply,
-    pub plant: Plant,
+    pub plant: Option<Plant>,
 }
 
 pub fn judging(sizes: Sizes, salt: usize) -> Call {
     Call {
-        ordering: false,
-        p: 0,
-        q: 0,
+        asked: None,
         sizes,
         salt,
-        want: make_reply(UNTOLD, 0, 0, 0),
-        plant: Plant {
-            buffer: NO_BUFFER,
-            cell: 0,
-        },
+        want: Reply::slow(),
+        plant: None,
     }
 }
 
 pub fn asking(sizes: Sizes, p: usize, q: usize, salt: usize) -> Call {
-    let mut call = judging(sizes, salt);
-    call.ordering = true;
-    call.p = p;
-    call.q = q;
-    call
+    Call {
+        asked: Some((p, q)),
+        ..judging(sizes, salt)
+    }
 }
 
 // The call with what must come of it told.
-pub fn wanting(mut call: Call, want: Reply) -> Call {
-    call.want = want;
-    call
+pub fn wanting(call: Call, want: Reply) -> Call {
+    Call { want, ..call }
 }
 
 // The slices of a trace of n events, with buffers longer than they need be.
@@ -170,37 +252,30 @@ pub fn roomy(n: usize) -> Sizes {
         kinds: n,
         tasks: n,
         operands: n,
-        ws: plus(n, 12300),
-        first: plus(n, 2),
-        second: plus(n, 3),
+        ws: n.wrapping_add(12300),
+        first: n.wrapping_add(2),
+        second: n.wrapping_add(3),
     }
 }
 
 // What must come of a call by the answer of the slow judge: that, but for the links that are planted.
-pub fn wanted_of(answer: Answer, call: Call) -> Reply {
-    let mut reply = reply_of_answer(answer);
-    reply.links = plus(reply.links, call.want.links);
-    reply
+pub fn wanted_of(reply: Reply, call: Call) -> Reply {
+    Reply {
+        links: reply.links.wrapping_add(call.want.links),
+        ..reply
+    }
 }
 
 // What must come of a call: what is told with it, or else what the slow one answers.
-pub fn wanted(
-    kinds: &[u8],
-    tasks: &[u16],
-    operands: &[u16],
-    call: Call,
-    memory: &mut [usize],
-) -> Reply {
-    if call.want.case != UNTOLD {
+pub fn wanted(trace: Trace<'_>, call: Call, memory: &mut Memory) -> Reply {
+    if call.want.case != Case::Slow {
         return call.want;
     }
-    if call.ordering {
-        return reply_of_ordering(test_slow::ordering(
-            kinds, tasks, operands, call.sizes, call.p, call.q, memory,
-        ));
+    match call.asked {
+        Some((p, q)) => reply_of(test_slow::ordering(trace, call.sizes, p, q, memory)),
+        None => wanted_of(
+            reply_of(test_slow::judge(trace, call.sizes, Halts::Named, memory)),
+            call,
+        ),
     }
-    wanted_of(
-        test_slow::judge(kinds, tasks, operands, call.sizes, Halts::Named, memory),
-        call,
-    )
 }

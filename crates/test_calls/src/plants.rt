@@ -1,25 +1,22 @@
 // Wrong expectations, as a table: a comparison that does not notice them would notice no wrong judge either.
 use crate::known::told;
-use crate::table::{read_table, rows};
-use crate::{Call, Plant, roomy};
-use test_cells::{get, more, plus};
+use crate::table::{read_rows, read_table};
+use crate::{Buffer, Call, Plant, roomy};
+use test_cells::get;
 
 pub const CELLS: usize = 8;
 
 // The events of all, document 01's run of two writes before an unordered read: race 1 4, and clean without the last.
-pub fn lay_events(events: &mut [u16]) {
-    read_table(
-        b"0 fork 1, 1 write 5, 1 write 5, 1 halt 0, 0 read 5",
-        events,
-    );
+pub fn lay_events(events: &mut [u16]) -> Option<usize> {
+    read_table("0 fork 1, 1 write 5, 1 write 5, 1 halt 0, 0 read 5", events)
 }
 
 // Of each plant: how many of the events; the judge, or the ordering call for 0 and 4; the answer that is told with its two numbers and the links, or SLOW for
 // what the slow one says, with so many links more; the buffer and its cell that is expected wrong. But for one thing all is right. Answers how many plants
-// there are, 0 if the cells are too few for them.
-pub fn read_plants(cells: &mut [u16]) -> usize {
-    let count = read_table(
-        b"
+// there are, as read_rows does.
+pub fn read_plants(cells: &mut [u16]) -> Option<usize> {
+    read_rows(
+        "
 # the answer is clean, and a race 1 4, both with 0 links
 4 judge REFUSED 8 0 0 none 0
 4 judge CLEAN 1 0 0 none 0
@@ -53,24 +50,20 @@ pub fn read_plants(cells: &mut [u16]) -> usize {
 5 judge SLOW 0 0 0 second 15
 ",
         cells,
-    );
-    rows(count, CELLS)
+        CELLS,
+    )
 }
 
 // The call of the plant in a row of the table.
 pub fn planted(cells: &[u16], row: usize) -> Call {
     let at = (row % 65536) * CELLS;
-    let plant = Plant {
-        buffer: get(cells, plus(at, 6)),
-        cell: get(cells, plus(at, 7)),
-    };
+    let told_at = |i: usize| get(cells, at.wrapping_add(i));
+    let cell = told_at(7);
     Call {
-        ordering: get(cells, more(at)) == 1,
-        p: 0,
-        q: 4,
-        sizes: roomy(get(cells, at)),
+        asked: (told_at(1) == 1).then_some((0, 4)),
+        sizes: roomy(told_at(0)),
         salt: 3,
         want: told(cells, at),
-        plant,
+        plant: Buffer::of(told_at(6)).map(|buffer| Plant { buffer, cell }),
     }
 }

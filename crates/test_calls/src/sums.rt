@@ -2,9 +2,9 @@
 use crate::table::read_table;
 
 // Answers how many cells the table has, as read_table does.
-pub fn read_runs(cells: &mut [u16]) -> usize {
+pub fn read_runs(cells: &mut [u16]) -> Option<usize> {
     read_table(
-        b"
+        "
 # sums of one task, alone and among its other accesses
 1 0 CLEAN 0 0 0: 0 sum 1023
 6 0 CLEAN 0 0 0: 0 sum 5, 0 read 5, 0 sum 5, 0 write 5, 0 sum 5, 0 sum 5

@@ -3,50 +3,49 @@
 use crate::lending::all_answer;
 use test_calls::known::{HEAD, cells_of, next_run, read_runs, told};
 use test_calls::{chains, judging, roomy, sums};
-use test_cells::{get, least, more, plus};
-use test_outcome::{Outcome, make_outcome};
+use test_cells::get;
+use test_outcome::{Fault, Outcome, make_outcome};
+use test_slow::Memory;
 
-fn run_agrees(cells: &[u16], at: usize) -> bool {
+fn run_agrees(cells: &[u16], at: usize, memory: &mut Memory) -> bool {
     let n = get(cells, at);
-    let from = least(plus(at, HEAD), cells.len());
-    let to = from + least(cells_of(n), cells.len() - from);
-    all_answer(&cells[from..to], judging(roomy(n), at), told(cells, at))
+    let from = at.wrapping_add(HEAD).min(cells.len());
+    let lent = cells_of(n).min(cells.len() - from);
+    let call = judging(roomy(n), at);
+    all_answer(&cells[from..from + lent], call, told(cells, at), memory)
 }
 
 // The table has so many cells: some, and none behind the last run's.
-fn go_through(cells: &[u16], count: usize) -> Outcome {
+fn go_through(cells: &[u16], count: Option<usize>, memory: &mut Memory) -> Outcome {
+    let count = count.unwrap_or(0);
     let mut at = 0;
-    let mut i = 0;
-    while at < count {
-        let next = next_run(cells, at);
-        // It never is: by this test the loop is seen to end.
-        if next <= at {
-            return make_outcome(i, false);
+    for number in 0..count {
+        if count <= at {
+            return make_outcome(number, at == count);
         }
-        if !run_agrees(cells, at) {
-            return make_outcome(i, false);
+        if !run_agrees(cells, at, memory) {
+            return Err(Fault { number });
         }
-        at = next;
-        i = more(i);
+        at = next_run(cells, at);
     }
-    make_outcome(i, (at == count) & (0 < i))
+    Err(Fault { number: count })
 }
 
-pub fn try_all() -> Outcome {
+pub fn try_all(memory: &mut Memory) -> Outcome {
     let mut cells = [0u16; 1024];
     let count = read_runs(&mut cells);
-    go_through(&cells, count)
+    go_through(&cells, count, memory)
 }
 
 // The short runs for the links.
-pub fn try_chains() -> Outcome {
+pub fn try_chains(memory: &mut Memory) -> Outcome {
     let mut cells = [0u16; 1024];
     let count = chains::read_runs(&mut cells);
-    go_through(&cells, count)
+    go_through(&cells, count, memory)
 }
 
-pub fn try_sums() -> Outcome {
+pub fn try_sums(memory: &mut Memory) -> Outcome {
     let mut cells = [0u16; 1024];
     let count = sums::read_runs(&mut cells);
-    go_through(&cells, count)
+    go_through(&cells, count, memory)
 }

@@ -1,30 +1,30 @@
 // Wrong expectations: the comparison must notice each of them.
 use crate::compare::compare;
-use crate::tables::{Table, go_through};
+use test_calls::judging;
 use test_calls::plants::{CELLS, planted};
-use test_calls::table::{read_table, rows};
-use test_calls::{MISMATCH, judging};
-use test_cells::{get, plus};
-use test_outcome::Outcome;
+use test_calls::table::{read_rows, read_table};
+use test_cells::get;
+use test_outcome::{Fault, Outcome, try_rows};
+use test_slow::Memory;
 
 // The events of all: race 9 15, and clean without the last, both with 1 link. Then location 5 is read once, written three times and added to twice, by events 1
 // to 11, location 7 is added to by the events 4, 12 and 14, location 1,023 is read by event 7, and no other is touched.
-fn lay_events(events: &mut [u16]) {
+pub fn lay_events(events: &mut [u16]) -> Option<usize> {
     read_table(
-        b"
+        "
 0 fork 1, 1 write 5, 1 read 5, 1 write 5, 1 sum 7, 1 halt 0, 0 join 1, 0 read 1023,
 0 fork 2, 2 write 5, 2 sum 5, 2 sum 5, 2 sum 7, 2 halt 0, 0 sum 7, 0 read 5
 ",
         events,
-    );
+    )
 }
 
 // Of each plant: how many of the events; how many records; the answer that is told with its two numbers and the links, or SLOW for what the slow judge says,
 // with so many links more; the buffer and its cell that is expected wrong, or the field of a card and its location. But for one thing all is right. Answers how
-// many plants there are, 0 if the cells are too few for them.
-fn read_plants(cells: &mut [u16]) -> usize {
-    let count = read_table(
-        b"
+// many plants there are, as read_rows does.
+fn read_plants(cells: &mut [u16]) -> Option<usize> {
+    read_rows(
+        "
 # the answer is clean, and refused 16 0
 15 1024 CLEAN 1 0 1 none 0
 15 1024 CLEAN 0 1 1 none 0
@@ -88,23 +88,25 @@ fn read_plants(cells: &mut [u16]) -> usize {
 15 1023 SLOW 0 0 0 second 0
 ",
         cells,
-    );
-    rows(count, CELLS)
+        CELLS,
+    )
 }
 
 // With no plant the events agree, and with it they do not.
-pub fn is_noticed(cells: &[u16], row: usize, events: &[u16]) -> bool {
-    let records = get(cells, plus((row % 65536) * CELLS, 1));
+fn is_noticed(cells: &[u16], row: usize, events: &[u16], memory: &mut Memory) -> bool {
+    let records = get(cells, ((row % 65536) * CELLS).wrapping_add(1));
     let call = planted(cells, row);
-    let bare = compare(events, judging(call.sizes, call.salt), records);
-    let wrong = compare(events, call, records);
-    (bare.case != MISMATCH) & (wrong.case == MISMATCH)
+    let bare = compare(events, judging(call.sizes, call.salt), records, memory);
+    let wrong = compare(events, call, records, memory);
+    bare.is_ok() && wrong.is_err()
 }
 
-pub fn try_all() -> Outcome {
+pub fn try_all(memory: &mut Memory) -> Outcome {
     let mut events = [0u16; 48];
     let mut cells = [0u16; 500];
-    lay_events(&mut events);
+    if lay_events(&mut events).is_none() {
+        return Err(Fault { number: 0 });
+    }
     let rows = read_plants(&mut cells);
-    go_through(&cells, rows, Table::Plants, &events)
+    try_rows(rows, |row| is_noticed(&cells, row, &events, memory))
 }

@@ -1,19 +1,18 @@
 // Cards written out by hand, to which the slow ones are held.
-use crate::filled::same_card;
-use crate::tables::{Table, go_through};
-use test_calls::YES;
-use test_calls::table::{read_table, rows};
-use test_cells::{get, least, plus};
-use test_outcome::Outcome;
+use test_calls::Case;
+use test_calls::table::read_rows;
+use test_cells::get;
+use test_outcome::{Outcome, try_rows};
 use test_slow::card::{Card, card_of};
+use test_slow::events::Trace;
 
 const CELLS: usize = 8;
 
 // Of each card: of how many of the events; its location; reads, writes, sums, first and last position; and whether it is told right. Answers how many cards
-// there are, 0 if the cells are too few for them.
-fn read_cards(cells: &mut [u16]) -> usize {
-    let count = read_table(
-        b"
+// there are, as read_rows does.
+fn read_cards(cells: &mut [u16]) -> Option<usize> {
+    read_rows(
+        "
 # no access, the first, and one more each time
 0 5 0 0 0 65535 65535 YES
 1 5 0 0 0 65535 65535 YES
@@ -53,49 +52,39 @@ fn read_cards(cells: &mut [u16]) -> usize {
 15 5 3 3 0 1 11 NO
 ",
         cells,
-    );
-    rows(count, CELLS)
+        CELLS,
+    )
 }
 
 // The slow card of a location, of the first n events of `plants`: here their kinds and operands.
 fn slow_card(n: usize, l: usize) -> Card {
     let kinds = [2u8, 1, 0, 1, 5, 4, 3, 0, 2, 1, 5, 5, 5, 4, 5, 0];
     let operands = [1u16, 5, 5, 5, 7, 0, 1, 1023, 2, 5, 5, 5, 7, 0, 7, 5];
-    let k = least(n, 16);
-    card_of(&kinds[0..k], &operands[0..k], l)
+    let k = n.min(16);
+    let trace = Trace {
+        kinds: &kinds[..k],
+        tasks: &[],
+        operands: &operands[..k],
+    };
+    card_of(trace, l)
 }
 
-pub fn make_card(reads: usize, writes: usize, sums: usize, first: usize, last: usize) -> Card {
-    Card {
-        reads,
-        writes,
-        sums,
-        first,
-        last,
-    }
-}
-
-// The card that the table tells at a cell.
-fn card_at(cells: &[u16], at: usize) -> Card {
-    make_card(
-        get(cells, plus(at, 2)),
-        get(cells, plus(at, 3)),
-        get(cells, plus(at, 4)),
-        get(cells, plus(at, 5)),
-        get(cells, plus(at, 6)),
-    )
-}
-
-pub fn row_agrees(cells: &[u16], row: usize) -> bool {
+fn row_agrees(cells: &[u16], row: usize) -> bool {
     let at = (row % 65536) * CELLS;
-    let slow = slow_card(get(cells, at), get(cells, plus(at, 1)));
-    let right = get(cells, plus(at, 7)) == YES;
-    same_card(slow, card_at(cells, at)) == right
+    let told_at = |i: usize| get(cells, at.wrapping_add(i));
+    let told = Card {
+        reads: told_at(2),
+        writes: told_at(3),
+        sums: told_at(4),
+        first: told_at(5),
+        last: told_at(6),
+    };
+    let right = Case::of(told_at(7)) == Some(Case::Yes);
+    (slow_card(told_at(0), told_at(1)) == told) == right
 }
 
 pub fn try_all() -> Outcome {
     let mut cells = [0u16; 256];
     let rows = read_cards(&mut cells);
-    let none = [0u16; 1];
-    go_through(&cells, rows, Table::Cards, &none)
+    try_rows(rows, |row| row_agrees(&cells, row))
 }

@@ -2,70 +2,35 @@
 // nothing. What is read and stored is a usize, so that callers make no casts.
 #![tactic(auto)]
 
-ghost use Rattle.std.specs.Prelude.{◌≤◌};
-
-fn wide(x: u16) -> usize {
-    x as usize
+pub trait Cell: Copy + Into<usize> {
+    // What a cell keeps of a number: its low bits.
+    fn of(number: usize) -> Self;
 }
 
-fn wide_byte(x: u8) -> usize {
-    x as usize
-}
-
-pub fn get(cells: &[u16], i: usize) -> usize {
-    if i < cells.len() { wide(cells[i]) } else { 0 }
-}
-
-pub fn put(cells: &mut [u16], i: usize, v: usize) {
-    if i < cells.len() {
-        cells[i] = (v % 65536) as u16;
+impl Cell for u8 {
+    fn of(number: usize) -> u8 {
+        (number % 256) as u8
     }
 }
 
-pub fn get_byte(bytes: &[u8], i: usize) -> usize {
-    if i < bytes.len() {
-        wide_byte(bytes[i])
-    } else {
-        0
+impl Cell for u16 {
+    fn of(number: usize) -> u16 {
+        (number % 65536) as u16
     }
 }
 
-pub fn put_byte(bytes: &mut [u8], i: usize, v: usize) {
-    if i < bytes.len() {
-        bytes[i] = (v % 256) as u8;
+impl Cell for usize {
+    fn of(number: usize) -> usize {
+        number
     }
 }
 
-pub fn get_word(words: &[usize], i: usize) -> usize {
-    if i < words.len() { words[i] } else { 0 }
+pub fn get<C: Cell>(cells: &[C], i: usize) -> usize {
+    cells.get(i).map_or(0, |cell| (*cell).into())
 }
 
-pub fn put_word(words: &mut [usize], i: usize, v: usize) {
-    if i < words.len() {
-        words[i] = v;
+pub fn put<C: Cell>(cells: &mut [C], i: usize, number: usize) {
+    if let Some(cell) = cells.get_mut(i) {
+        *cell = C::of(number);
     }
-}
-
-// Sums and differences of counts that stay far from both ends.
-pub fn more(x: usize) -> usize {
-    std::num::wrapping_add_usize(x, 1)
-}
-
-pub fn less(x: usize) -> usize {
-    std::num::wrapping_sub_usize(x, 1)
-}
-
-pub fn plus(x: usize, y: usize) -> usize {
-    std::num::wrapping_add_usize(x, y)
-}
-
-pub fn minus(x: usize, y: usize) -> usize {
-    std::num::wrapping_sub_usize(x, y)
-}
-
-// The smaller of two numbers: no part of a slice that is so long goes past its end.
-pub fn least(x: usize, y: usize) -> usize
-    ensures { (result ≤ x) × (result ≤ y) }
-{
-    if x < y { x } else { y }
 }

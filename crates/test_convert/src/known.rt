@@ -1,19 +1,20 @@
 // Runs that are told with what becomes of them, as a table. Each wrong way of the slow conversion must show in one of them.
 use crate::compare::compare;
-use crate::slow::{RIGHT, WANTED};
-use test_calls::known::{HEAD, cells_of, cells_told, told};
+use crate::slow::Way;
+use test_calls::known::{HEAD, behind_events, told};
 use test_calls::table::read_table;
-use test_calls::{MISMATCH, judging, roomy, same_reply};
-use test_cells::{get, least, more, plus};
-use test_outcome::{Outcome, make_outcome, with};
+use test_calls::{judging, roomy};
+use test_cells::get;
+use test_outcome::{Fault, Outcome, make_outcome};
+use test_slow::Memory;
 
 const RUNS: usize = 16;
 
 // Of each run: how many events; the position of the first that breaks a rule with row 12 as it was, or again how many; what the judge with that row 12 answers,
 // with its two numbers and the links; then the events, and then their operands after the conversion. Answers how many cells the table has, as read_table does.
-fn read_runs(cells: &mut [u16]) -> usize {
+fn read_runs(cells: &mut [u16]) -> Option<usize> {
     read_table(
-        b"
+        "
 # no events
 0 0 CLEAN 0 0 0
 # a nest of three, and once more when it is converted
@@ -43,43 +44,53 @@ fn read_runs(cells: &mut [u16]) -> usize {
     )
 }
 
-// Where the operands of the run at a cell stand.
-fn operands_at(cells: &[u16], at: usize) -> usize {
-    plus(at, plus(HEAD, cells_of(get(cells, at))))
+fn next_run(cells: &[u16], at: usize) -> usize {
+    behind_events(cells, at).wrapping_add(get(cells, at))
 }
 
-fn next_run(cells: &[u16], at: usize) -> usize {
-    plus(operands_at(cells, at), get(cells, at))
+// Whether the n cells of the table from a place on are the first of these.
+fn cells_told(cells: &[u16], from: usize, n: usize, these: &[u16]) -> bool {
+    (0..n).all(|i| get(cells, from.wrapping_add(i)) == get(these, i))
 }
 
 // Whether the run at a cell is converted as the slow conversion says and, where that goes the right way, as is told. Behind its events stand the other runs, which
 // are not lent.
-fn run_agrees(cells: &[u16], at: usize, way: usize, memory: &mut [usize]) -> bool {
+fn run_agrees(cells: &[u16], at: usize, way: Way, memory: &mut Memory) -> bool {
     let n = get(cells, at);
-    let from = least(plus(at, HEAD), cells.len());
+    let from = at.wrapping_add(HEAD).min(cells.len());
     let compared = compare(&cells[from..], judging(roomy(n), at), way, memory);
-    let operands = cells_told(cells, operands_at(cells, at), n, WANTED, memory);
-    let verdict = same_reply(compared.before.verdict, told(cells, at));
-    let right = operands & verdict & (compared.before.broken == get(cells, more(at)));
-    (compared.reply.case != MISMATCH) & (right | (way != RIGHT))
+    let before = &compared.before;
+    let right = before.broken == get(cells, at.wrapping_add(1))
+        && before.verdict == told(cells, at)
+        && cells_told(cells, behind_events(cells, at), n, before.wanted.operands());
+    compared.answer.is_ok() && (right || way != Way::Right)
 }
 
 // The table has so many cells: those of its runs, and none behind them.
-fn go_through(cells: &[u16], count: usize, way: usize, memory: &mut [usize]) -> Outcome {
-    let mut outcome = make_outcome(0, true);
+fn go_through(cells: &[u16], count: Option<usize>, way: Way, memory: &mut Memory) -> Outcome {
     let mut at = 0;
-    let mut i = 0;
-    while i < RUNS {
-        outcome = with(outcome, run_agrees(cells, at, way, memory));
+    for number in 0..RUNS {
+        if !run_agrees(cells, at, way, memory) {
+            return Err(Fault { number });
+        }
         at = next_run(cells, at);
-        i += 1;
     }
-    make_outcome(outcome.agreed, outcome.all & (at == count))
+    make_outcome(RUNS, count == Some(at))
 }
 
 // All runs, where the slow conversion goes this way.
-pub fn try_all(way: usize, memory: &mut [usize]) -> Outcome {
+pub fn try_all(way: Way, memory: &mut Memory) -> Outcome {
     let mut cells = [0u16; 1024];
     let count = read_runs(&mut cells);
     go_through(&cells, count, way, memory)
+}
+
+// Each wrong way is noticed.
+pub fn try_wrong(memory: &mut Memory) -> Outcome {
+    for (number, way) in Way::WRONG.iter().enumerate() {
+        if try_all(*way, memory).is_ok() {
+            return Err(Fault { number });
+        }
+    }
+    Ok(Way::WRONG.len())
 }

@@ -9,95 +9,53 @@ mod plants;
 mod random;
 mod slow;
 
-use random::COUNTS;
-use slow::{RIGHT, WAYS};
+use random::Counts;
+use slow::Way;
 use std::io;
-use test_cells::{least, less, more};
-use test_outcome::{Outcome, all_agree, all_noticed, make_outcome, print_all, with};
+use test_outcome::{all_agree, all_noticed, print_all};
+use test_slow::Memory;
 
-// ---- tries
-
-const WRONG_WAYS: usize = 0;
-
-const PLANTS: usize = 1;
-
-const LENGTHS: usize = 2;
-
-const RANDOM: usize = 3;
-
-fn tries(group: usize) -> usize {
-    match group {
-        0 => less(WAYS),
-        1 => plants::count(),
-        2 => lengths::count(),
-        _ => random::TRACES,
-    }
-}
-
-fn try_one(group: usize, i: usize, memory: &mut [usize]) -> bool {
-    match group {
-        0 => !known::try_all(more(i), memory).all,
-        1 => plants::is_noticed(i, memory),
-        2 => lengths::agrees(i, memory),
-        _ => random::agrees(i, memory),
-    }
-}
-
-fn try_all(group: usize, memory: &mut [usize]) -> Outcome {
-    let n = tries(group);
-    let mut outcome = make_outcome(0, true);
-    let mut i = 0;
-    while i < n {
-        outcome = with(outcome, try_one(group, i, memory));
-        i += 1;
-    }
-    outcome
-}
-
-// ---- what is told
-
-fn run_told(rt: &impl Print, memory: &mut [usize]) -> io::Result<()> {
-    all_agree(rt, "runs that are told: ", known::try_all(RIGHT, memory))?;
+fn run_told(rt: &impl Print, memory: &mut Memory) -> io::Result<()> {
+    all_agree(
+        rt,
+        "runs that are told: ",
+        known::try_all(Way::Right, memory),
+    )?;
     all_noticed(
         rt,
         "wrong conversions that were noticed: ",
-        try_all(WRONG_WAYS, memory),
+        known::try_wrong(memory),
     )?;
     all_noticed(
         rt,
         "wrong expectations that were noticed: ",
-        try_all(PLANTS, memory),
+        plants::try_all(memory),
     )?;
     Ok(())
 }
 
-fn run_others(rt: &impl Print, memory: &mut [usize]) -> io::Result<()> {
-    all_agree(rt, "lengths of slices: ", try_all(LENGTHS, memory))?;
+fn run_others(rt: &impl Print, memory: &mut Memory, counts: &mut Counts) -> io::Result<()> {
+    all_agree(rt, "lengths of slices: ", lengths::try_all(memory))?;
     all_agree(
         rt,
         "a nest of 1024 tasks, and traces at random: ",
-        try_all(RANDOM, memory),
+        random::try_all(memory, counts),
     )?;
     Ok(())
 }
 
-fn print_counts(rt: &impl Print, memory: &[usize]) -> io::Result<()> {
-    let from = least(COUNTS, memory.len());
-    let to = from + least(7, memory.len() - from);
+fn run(rt: &impl Print, memory: &mut Memory) -> io::Result<()> {
+    let mut counts = Counts::new();
+    run_told(rt, memory)?;
+    run_others(rt, memory, &mut counts)?;
     print_all(
         rt,
         "  converted, refused 1, 2, 3; operands that changed; clean, race, before and after:",
-        &memory[from..to],
+        &counts.numbers(),
     )
 }
 
-fn run(rt: &impl Print, memory: &mut [usize; test_slow::MEMORY]) -> io::Result<()> {
-    run_told(rt, memory)?;
-    run_others(rt, memory)?;
-    print_counts(rt, memory)
-}
-
 fn main(rt: HostRuntime) -> io::Result<()> {
-    let mut memory = [0usize; test_slow::MEMORY];
+    let mut memory = Memory::new(rt.alloc())?;
     run(&rt, &mut memory)
 }

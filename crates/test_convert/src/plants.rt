@@ -1,15 +1,16 @@
 // Wrong expectations: the comparison must notice each of them.
 use crate::compare::compare;
-use crate::slow::RIGHT;
-use test_calls::MISMATCH;
+use crate::slow::Way;
 use test_calls::plants::{CELLS, planted};
-use test_calls::table::{read_table, rows};
+use test_calls::table::read_rows;
+use test_outcome::{Outcome, try_rows};
+use test_slow::Memory;
 
 // As the judge's plants: how many of the events; the answer that is told, CLEAN for converted, or SLOW for the right one; the buffer and its cell that is expected
-// wrong. But for one thing all is right. Answers how many plants there are, 0 if the cells are too few for them.
-fn read_plants(cells: &mut [u16]) -> usize {
-    let count = read_table(
-        b"
+// wrong. But for one thing all is right. Answers how many plants there are, as read_rows does.
+fn read_plants(cells: &mut [u16]) -> Option<usize> {
+    read_rows(
+        "
 # the answer
 4 judge REFUSED 3 0 0 none 0
 4 judge CLEAN 1 0 0 none 0
@@ -29,23 +30,19 @@ fn read_plants(cells: &mut [u16]) -> usize {
 3 judge SLOW 0 0 0 first 0
 ",
         cells,
-    );
-    rows(count, CELLS)
-}
-
-pub fn count() -> usize {
-    let mut cells = [0u16; 128];
-    read_plants(&mut cells)
+        CELLS,
+    )
 }
 
 // The events are 0 fork 1, 1 fork 2, 2 halt, 0 read 5. The last is refused, since task 0 does not run: what the judge leaves is not looked at then, and only the
 // conversion can be at fault.
-pub fn is_noticed(i: usize, memory: &mut [usize]) -> bool {
+pub fn try_all(memory: &mut Memory) -> Outcome {
     let events = [0u16, 2, 1, 1, 2, 2, 2, 4, 0, 0, 0, 5];
     let mut cells = [0u16; 128];
-    read_plants(&mut cells);
-    compare(&events, planted(&cells, i), RIGHT, memory)
-        .reply
-        .case
-        == MISMATCH
+    let rows = read_plants(&mut cells);
+    try_rows(rows, |row| {
+        compare(&events, planted(&cells, row), Way::Right, memory)
+            .answer
+            .is_err()
+    })
 }

@@ -1,43 +1,73 @@
 // A nest of all tasks, and many traces at random, stored with other operands at their halts.
 use crate::compare::{Compared, compare};
-use crate::slow::{RIGHT, WANTED};
+use crate::slow::Way;
 use test_calls::drawn::sizes_of;
 use test_calls::lines::lay_nest;
-use test_calls::{Call, MISMATCH, REFUSED, judging, roomy};
-use test_cells::{get_word, minus, plus, put_word};
+use test_calls::{Call, Case, judging, roomy};
+use test_outcome::{Outcome, count_more, try_each};
 use test_samples::draws::{below, next, seed_of, stream};
-use test_samples::events::{HALT, event_at, make_event, put_event};
+use test_samples::events::{Event, Kind, event_at, put_event};
 use test_samples::make;
+use test_slow::Memory;
 
-pub const TRACES: usize = 4001;
+const TRACES: usize = 4001;
 
 // ---- counts
 
-// They stand in the memory behind the wanted operands of the longest trace: how many were converted, how many were refused by 1, 2 and 3, how many operands changed,
-// and by their cases the verdicts before the conversion.
-pub const COUNTS: usize = WANTED + 32808;
-
-const CHANGED: usize = COUNTS + 4;
-
-const VERDICTS: usize = COUNTS + 5;
-
-fn count(memory: &mut [usize], cell: usize, more: usize) {
-    put_word(memory, cell, plus(get_word(memory, cell), more));
+// How many were converted, how many were refused by 1, 2 and 3, how many operands changed, and the verdicts before the conversion: clean, and a race.
+#[derive(Clone, Copy)]
+pub struct Counts {
+    converted: usize,
+    refused: [usize; 3],
+    changed: usize,
+    clean: usize,
+    races: usize,
 }
 
-fn cell_of(case: usize) -> usize {
-    if case < REFUSED {
-        return COUNTS;
+impl Counts {
+    pub fn new() -> Counts {
+        Counts {
+            converted: 0,
+            refused: [0; 3],
+            changed: 0,
+            clean: 0,
+            races: 0,
+        }
     }
-    plus(COUNTS, minus(case, REFUSED))
-}
 
-// Counts what came of a call, and says whether it is an answer.
-fn counted(compared: Compared, memory: &mut [usize]) -> bool {
-    count(memory, cell_of(compared.reply.case), 1);
-    count(memory, CHANGED, compared.before.changed);
-    count(memory, plus(VERDICTS, compared.before.verdict.case), 1);
-    compared.reply.case != MISMATCH
+    fn count_row(&mut self, row: usize) {
+        if let Some(count) = self.refused.get_mut(row.wrapping_sub(1)) {
+            count_more(count, 1);
+        }
+    }
+
+    // Counts what came of a call, and says whether it is an answer.
+    fn take(&mut self, compared: &Compared) -> bool {
+        match compared.answer.map(|reply| reply.row()) {
+            Ok(None) => count_more(&mut self.converted, 1),
+            Ok(Some(row)) => self.count_row(row),
+            Err(_) => return false,
+        }
+        count_more(&mut self.changed, compared.before.wanted.changed);
+        match compared.before.verdict.case {
+            Case::Clean => count_more(&mut self.clean, 1),
+            Case::Race => count_more(&mut self.races, 1),
+            _ => {}
+        }
+        true
+    }
+
+    pub fn numbers(&self) -> [usize; 7] {
+        [
+            self.converted,
+            self.refused[0],
+            self.refused[1],
+            self.refused[2],
+            self.changed,
+            self.clean,
+            self.races,
+        ]
+    }
 }
 
 // ---- traces
@@ -45,31 +75,17 @@ fn counted(compared: Compared, memory: &mut [usize]) -> bool {
 // What a halt has in the stored trace of a number: in two of four traces 0, in one at times another number, in one what is drawn, the task that resumes.
 fn stored(drawn: usize, i: usize, seed: usize) -> usize {
     match i % 4 {
-        0 | 1 => 0,
-        2 => {
-            if below(seed, 8) == 0 {
-                below(next(seed), 1100)
-            } else {
-                0
-            }
-        }
-        _ => drawn,
+        3 => drawn,
+        2 if below(seed, 8) == 0 => below(next(seed), 1100),
+        _ => 0,
     }
 }
 
 fn store_one(events: &mut [u16], p: usize, i: usize) {
     let event = event_at(events, p);
-    if event.kind == HALT {
-        let operand = stored(event.operand, i, seed_of(plus(i, p)));
-        put_event(events, p, make_event(event.task, HALT, operand));
-    }
-}
-
-fn store(events: &mut [u16], n: usize, i: usize) {
-    let mut p = 0;
-    while p < n {
-        store_one(events, p, i);
-        p += 1;
+    if event.is(Kind::Halt) {
+        let operand = stored(event.operand, i, seed_of(i.wrapping_add(p)));
+        put_event(events, p, Event { operand, ..event });
     }
 }
 
@@ -89,9 +105,15 @@ fn call_of(n: usize, i: usize) -> Call {
     judging(sizes_of(n, stream(seed_of(i), 5)), i)
 }
 
-pub fn agrees(i: usize, memory: &mut [usize]) -> bool {
+fn agrees(i: usize, memory: &mut Memory, counts: &mut Counts) -> bool {
     let mut events = [0u16; 12300];
     let n = draw(&mut events, i);
-    store(&mut events, n, i);
-    counted(compare(&events, call_of(n, i), RIGHT, memory), memory)
+    for p in 0..n {
+        store_one(&mut events, p, i);
+    }
+    counts.take(&compare(&events, call_of(n, i), Way::Right, memory))
+}
+
+pub fn try_all(memory: &mut Memory, counts: &mut Counts) -> Outcome {
+    try_each(TRACES, |i| agrees(i, memory, counts))
 }

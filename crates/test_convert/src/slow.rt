@@ -1,143 +1,133 @@
 // The slow conversion: document 02's K6 taken at its word, on the slow judge's rules with row 12 as it was, with no part of the fast one. It can go wrong ways, on
 // purpose: the comparison must notice each of them.
 use test_calls::buffers::SPARE;
-use test_calls::{RACE, Reply};
-use test_cells::{get, get_byte, more, plus, put_word};
-use test_samples::events::{FORK, HALT, JOIN, WRITE};
-use test_slow::events::{Found, find};
+use test_calls::{Case, Reply};
+use test_cells::{get, put};
+use test_slow::Sizes;
+use test_slow::events::{Event, Kind, Trace};
 use test_slow::rules::Halts;
-use test_slow::{Sizes, size_row};
 
-// Where the operands that it leaves stand in the slow judge's memory: behind the two orders of the longest trace that it takes.
-pub const WANTED: usize = test_slow::ORDERS + 2 * test_slow::EVENTS;
+// ---- ways
 
-// ---- wrong ways
+#[derive(Clone, Copy, PartialEq, Eq)]
+pub enum Way {
+    Right,
+    // A halt is given 0, the bottom of the stack; the parent of the task that resumes; itself.
+    Bottom,
+    Grandparent,
+    Itself,
+    // A join is set too; a write is.
+    Joins,
+    Writes,
+    // The event that breaks a rule is set too; all halts behind it are; a trace that breaks a rule is left as it is.
+    Breaking,
+    Behind,
+    Alone,
+    // A race stops it; row 12 is read as it is now.
+    Races,
+    Named,
+}
 
-pub const RIGHT: usize = 0;
+impl Way {
+    pub const WRONG: [Way; 10] = [
+        Way::Bottom,
+        Way::Grandparent,
+        Way::Itself,
+        Way::Joins,
+        Way::Writes,
+        Way::Breaking,
+        Way::Behind,
+        Way::Alone,
+        Way::Races,
+        Way::Named,
+    ];
 
-// A halt is given 0, the bottom of the stack; the parent of the task that resumes; itself.
-pub const BOTTOM: usize = 1;
+    // "row 12 read as it was before this change"
+    pub fn halts(self) -> Halts {
+        match self {
+            Way::Named => Halts::Named,
+            _ => Halts::Zero,
+        }
+    }
 
-pub const GRANDPARENT: usize = 2;
+    fn sets(self, event: Event) -> bool {
+        event.is(Kind::Halt)
+            || (event.is(Kind::Join) && self == Way::Joins)
+            || (event.is(Kind::Write) && self == Way::Writes)
+    }
 
-pub const ITSELF: usize = 3;
-
-// A join is set too; a write is.
-pub const JOINS: usize = 4;
-
-pub const WRITES: usize = 5;
-
-// The event that breaks a rule is set too; all halts behind it are; a trace that breaks a rule is left as it is.
-pub const BREAKING: usize = 6;
-
-pub const BEHIND: usize = 7;
-
-pub const ALONE: usize = 8;
-
-// A race stops it; row 12 is read as it is now.
-pub const RACES: usize = 9;
-
-pub const NAMED: usize = 10;
-
-pub const WAYS: usize = 11;
+    // Where the conversion stops, if "the first event that breaks a rule" is at `broken`, or there are so many and none does, and the judge said this. By rows 1 to 3
+    // it sets nothing.
+    pub fn stop(self, broken: usize, sizes: Sizes, verdict: Reply) -> usize {
+        match self {
+            _ if sizes.check().is_err() => 0,
+            Way::Races if verdict.case == Case::Race => verdict.b,
+            Way::Alone if broken < sizes.kinds => 0,
+            Way::Behind => sizes.kinds,
+            Way::Breaking => broken.wrapping_add(1),
+            _ => broken,
+        }
+    }
+}
 
 // ---- operands
 
 // The task that forked a task: that of the fork before p that names it. Task 0 has none, and then it is 0.
-fn parent(kinds: &[u8], tasks: &[u16], operands: &[u16], task: usize, p: usize) -> usize {
-    let fork = find(kinds, operands, FORK, task, p);
-    match fork {
-        Found::At(f) => get(tasks, f),
-        Found::Nothing => 0,
-    }
+fn parent(trace: Trace<'_>, task: usize, p: usize) -> usize {
+    let fork = trace.latest(p, |event| event.is(Kind::Fork) && event.operand == task);
+    fork.map_or(0, |f| trace.event(f).task)
 }
 
 // "the task that resumes; for task 0's own halt it is 0."
-fn resumed(kinds: &[u8], tasks: &[u16], operands: &[u16], way: usize, p: usize) -> usize {
-    let task = get(tasks, p);
-    let right = parent(kinds, tasks, operands, task, p);
-    if way == GRANDPARENT {
-        return parent(kinds, tasks, operands, right, p);
+fn resumed(trace: Trace<'_>, way: Way, p: usize) -> usize {
+    let task = trace.event(p).task;
+    let right = parent(trace, task, p);
+    match way {
+        Way::Grandparent => parent(trace, right, p),
+        Way::Itself => task,
+        Way::Bottom => 0,
+        _ => right,
     }
-    if way == ITSELF {
-        return task;
-    }
-    if way == BOTTOM { 0 } else { right }
-}
-
-fn is_set(kind: usize, way: usize) -> bool {
-    let join = (kind == JOIN) & (way == JOINS);
-    let write = (kind == WRITE) & (way == WRITES);
-    (kind == HALT) | join | write
 }
 
 // "sets the operand of each halt before the first event that breaks a rule .., and changes nothing else"
-fn operand_of(
-    kinds: &[u8],
-    tasks: &[u16],
-    operands: &[u16],
-    stop: usize,
-    way: usize,
-    p: usize,
-) -> usize {
-    if (p < stop) & is_set(get_byte(kinds, p), way) {
-        return resumed(kinds, tasks, operands, way, p);
+fn operand_of(trace: Trace<'_>, stop: usize, way: Way, p: usize) -> usize {
+    if p < stop && way.sets(trace.event(p)) {
+        return resumed(trace, way, p);
     }
-    get(operands, p)
+    get(trace.operands, p)
 }
 
-// Puts the operands that the conversion must leave where it sets none from this position on, and some behind those that are lent. Answers how many it changes.
-pub fn put_wanted(
-    kinds: &[u8],
-    tasks: &[u16],
-    operands: &[u16],
+// The most operands that are lent, with those behind them.
+const ROOM: usize = 32808;
+
+// The operands that the conversion must leave, and some behind those that are lent; and how many it changes.
+#[derive(Clone, Copy)]
+pub struct Wanted {
+    operands: [u16; ROOM],
     lent: usize,
-    stop: usize,
-    way: usize,
-    memory: &mut [usize],
-) -> usize {
-    let n = plus(lent, SPARE);
-    let mut changed = 0;
-    let mut p = 0;
-    while p < n {
-        let operand = operand_of(kinds, tasks, operands, stop, way, p);
-        put_word(memory, plus(WANTED, p), operand);
-        if operand != get(operands, p) {
-            changed = more(changed);
+    pub changed: usize,
+}
+
+impl Wanted {
+    // Where it sets none from this position on.
+    pub fn new(trace: Trace<'_>, lent: usize, stop: usize, way: Way) -> Wanted {
+        let lent = lent.wrapping_add(SPARE).min(ROOM);
+        let mut operands = [0; ROOM];
+        let mut changed: usize = 0;
+        for p in 0..lent {
+            let operand = operand_of(trace, stop, way, p);
+            put(&mut operands, p, operand);
+            changed = changed.wrapping_add((operand != get(trace.operands, p)).into());
         }
-        p += 1;
+        Wanted {
+            operands,
+            lent,
+            changed,
+        }
     }
-    changed
-}
 
-// ---- where it stops
-
-// "row 12 read as it was before this change"
-pub fn halts_of(way: usize) -> Halts {
-    if way == NAMED {
-        return Halts::Named;
-    }
-    Halts::Zero
-}
-
-// Where the conversion stops, if "the first event that breaks a rule" is at `broken`, or there are so many and none does, and the judge said this. By rows 1 to 3
-// it sets nothing.
-pub fn stop_of(broken: usize, sizes: Sizes, verdict: Reply, way: usize) -> usize {
-    if size_row(sizes) != 0 {
-        return 0;
-    }
-    if (way == RACES) & (verdict.case == RACE) {
-        return verdict.b;
-    }
-    if (way == ALONE) & (broken < sizes.kinds) {
-        return 0;
-    }
-    if way == BEHIND {
-        return sizes.kinds;
-    }
-    if way == BREAKING {
-        more(broken)
-    } else {
-        broken
+    pub fn operands(&self) -> &[u16] {
+        &self.operands[..self.lent.min(ROOM)]
     }
 }

@@ -1,204 +1,138 @@
 // One call for the pairs in dirty buffers: its answer and all cells that it was lent, and some behind them, are held to what the slow list says.
 use crate::slow::{Found, cells_written, find, listed, reply_of};
-use pairs::Listing;
-use test_calls::buffers::{holds_both, holds_zeros, soil};
-use test_calls::{Call, Reply, UNTOLD, reply_held, reply_of_refusal};
-use test_cells::{least, less, more};
+use test_calls::buffers::{holds_both, holds_zeros, lend, soil};
+use test_calls::{Answer, Call, Case, Reply, reply_held};
 use test_samples::events::lay;
-use test_slow::Sizes;
-use test_slow::close::{LATER, ROOM};
+use test_slow::close::Way;
+use test_slow::events::Trace;
+use test_slow::{Memory, ROOM, Sizes};
 
 // ---- what the slices for the pairs are lent
 
-// For each of them four lengths, by the number of pairs: none, one too few, just enough and one more.
-pub const LENDINGS: usize = 16;
-
-// Both just enough.
-pub const EXACT: usize = 10;
-
-// As the sizes say.
-pub const AS_TOLD: usize = 16;
-
-// Where there is no pair, one too few is none too.
-fn cells_lent(pairs: usize, length: usize) -> usize {
-    let cells = match length {
-        0 => 0,
-        1 => least(pairs, less(pairs)),
-        2 => pairs,
-        _ => more(pairs),
-    };
-    least(cells, ROOM)
+// How many cells a slice is lent, by the number of pairs. Where there is no pair, one too few is none too.
+#[derive(Clone, Copy, PartialEq, Eq)]
+pub enum Length {
+    Nothing,
+    OneTooFew,
+    Exact,
+    OneMore,
 }
 
-fn lent(mut sizes: Sizes, pairs: usize, lending: usize) -> Sizes {
-    if lending < LENDINGS {
-        sizes.first = cells_lent(pairs, lending / 4);
-        sizes.second = cells_lent(pairs, lending % 4);
+impl Length {
+    fn of(number: usize) -> Length {
+        match number {
+            0 => Length::Nothing,
+            1 => Length::OneTooFew,
+            2 => Length::Exact,
+            _ => Length::OneMore,
+        }
     }
-    sizes
+
+    fn cells(self, pairs: usize) -> usize {
+        let cells = match self {
+            Length::Nothing => 0,
+            Length::OneTooFew => pairs.saturating_sub(1),
+            Length::Exact => pairs,
+            Length::OneMore => pairs.wrapping_add(1),
+        };
+        cells.min(ROOM)
+    }
+}
+
+// The lengths of both, or those that the sizes of the call say.
+#[derive(Clone, Copy, PartialEq, Eq)]
+pub enum Lending {
+    AsTold,
+    By(Length, Length),
+}
+
+// Four lengths of the one and four of the other.
+pub const LENDINGS: usize = 16;
+
+impl Lending {
+    pub const EXACT: Lending = Lending::By(Length::Exact, Length::Exact);
+
+    // A cell too few for the later positions.
+    pub const SHORT: Lending = Lending::By(Length::Exact, Length::OneTooFew);
+
+    // What stands in a table as this number.
+    pub fn of(number: usize) -> Lending {
+        if number < LENDINGS {
+            Lending::By(Length::of(number / 4), Length::of(number % 4))
+        } else {
+            Lending::AsTold
+        }
+    }
+
+    fn sizes(self, pairs: usize, sizes: Sizes) -> Sizes {
+        match self {
+            Lending::AsTold => sizes,
+            Lending::By(earlier, later) => Sizes {
+                first: earlier.cells(pairs),
+                second: later.cells(pairs),
+                ..sizes
+            },
+        }
+    }
 }
 
 // The call where this is found: with what it is lent, and with what must come of it, which is told with it or else what the slow list says.
-fn made_of(mut call: Call, found: Found, lending: usize, way: usize) -> Call {
-    call.sizes = lent(call.sizes, found.pairs, lending);
-    if call.want.case == UNTOLD {
-        call.want = reply_of(found, call.sizes, way);
+fn made_of(call: Call, found: Found, lending: Lending, way: Way) -> Call {
+    let sizes = lending.sizes(found.pairs, call.sizes);
+    let want = match call.want.case {
+        Case::Slow => reply_of(found, sizes, way),
+        _ => call.want,
+    };
+    Call {
+        sizes,
+        want,
+        ..call
     }
-    call
 }
 
 // ---- the call
 
-fn reply_of_listing(listing: Listing) -> Reply {
-    match listing {
-        Listing::Listed(pairs) => listed(pairs),
-        Listing::Refused(refusal) => reply_of_refusal(refusal),
-    }
-}
-
-// Its answer where it is lent so many cells.
-fn list(
-    kinds: &[u8],
-    tasks: &[u16],
-    operands: &[u16],
-    ws: &mut [u16],
-    earlier: &mut [u16],
-    later: &mut [u16],
-    sizes: Sizes,
-) -> Reply {
-    let w = least(sizes.ws, ws.len());
-    let e = least(sizes.first, earlier.len());
-    let l = least(sizes.second, later.len());
-    reply_of_listing(pairs::list(
-        kinds,
-        tasks,
-        operands,
-        &mut ws[0..w],
-        &mut earlier[0..e],
-        &mut later[0..l],
-    ))
-}
-
-// So many cells of each slice must hold a pair.
-fn list_in(
-    kinds: &[u8],
-    tasks: &[u16],
-    operands: &[u16],
-    ws: &mut [u16; 45100],
-    earlier: &mut [u16; 83310],
-    later: &mut [u16; 83310],
-    call: Call,
-    written: usize,
-    memory: &[usize],
-) -> Reply {
-    soil(ws, call.sizes.ws, call.salt);
-    soil(earlier, call.sizes.first, call.salt);
-    soil(later, call.sizes.second, call.salt);
-    let reply = list(kinds, tasks, operands, ws, earlier, later, call.sizes);
-    let zeros = holds_zeros(ws, call, call.want, memory);
-    let pairs = holds_both(earlier, later, call, written, LATER, memory);
-    reply_held(reply, call.want, zeros & pairs)
-}
-
-// Its answer, or MISMATCH.
-fn listed_in_dirt(
-    kinds: &[u8],
-    tasks: &[u16],
-    operands: &[u16],
-    call: Call,
-    written: usize,
-    memory: &[usize],
-) -> Reply {
+// What the call itself answers, if it is what it should. So many cells of each slice must hold a pair.
+fn list(trace: Trace<'_>, call: Call, written: usize, memory: &Memory) -> Answer {
     let mut ws = [0u16; 45100];
     let mut earlier = [0u16; 83310];
     let mut later = [0u16; 83310];
-    list_in(
-        kinds,
-        tasks,
-        operands,
-        &mut ws,
-        &mut earlier,
-        &mut later,
-        call,
-        written,
-        memory,
+    soil(&mut ws, call.sizes.ws, call.salt);
+    soil(&mut earlier, call.sizes.first, call.salt);
+    soil(&mut later, call.sizes.second, call.salt);
+    let reply = pairs::list(
+        trace.kinds,
+        trace.tasks,
+        trace.operands,
+        lend(&mut ws, call.sizes.ws),
+        lend(&mut earlier, call.sizes.first),
+        lend(&mut later, call.sizes.second),
     )
+    .map_or_else(Reply::from, listed);
+    let zeros = holds_zeros(&ws, call, call.want);
+    let pairs = holds_both(&earlier, &later, call, written, memory);
+    reply_held(reply, call.want, zeros & pairs)
 }
 
-// ---- both
-
-fn compare_both(
-    kinds: &[u8],
-    tasks: &[u16],
-    operands: &[u16],
-    call: Call,
-    lending: usize,
-    way: usize,
-    memory: &mut [usize],
-) -> Reply {
-    let found = find(kinds, tasks, operands, call, way, memory);
-    let made = made_of(call, found, lending, way);
-    let written = cells_written(made, found.pairs, way);
-    listed_in_dirt(kinds, tasks, operands, made, written, memory)
-}
-
-fn compare_cut(
-    kinds: &[u8],
-    tasks: &[u16],
-    operands: &[u16],
-    call: Call,
-    lending: usize,
-    way: usize,
-    memory: &mut [usize],
-) -> Reply {
-    let k = least(call.sizes.kinds, kinds.len());
-    let t = least(call.sizes.tasks, tasks.len());
-    let o = least(call.sizes.operands, operands.len());
-    compare_both(
-        &kinds[0..k],
-        &tasks[0..t],
-        &operands[0..o],
-        call,
-        lending,
-        way,
-        memory,
-    )
-}
-
-fn compare_in(
-    events: &[u16],
-    kinds: &mut [u8; 32800],
-    tasks: &mut [u16; 32800],
-    operands: &mut [u16; 32800],
-    call: Call,
-    lending: usize,
-    way: usize,
-    memory: &mut [usize],
-) -> Reply {
-    lay(events, kinds, tasks, operands);
-    compare_cut(kinds, tasks, operands, call, lending, way, memory)
-}
-
-// What the call itself answers on a trace of these events, not what the slow list says that goes this way; or MISMATCH. Behind them the slices hold reads of
-// location 0 by task 0.
+// What the call itself answers on a trace of these events, if it is what the slow list says that goes this way. Behind them the slices hold reads of location 0 by
+// task 0.
 pub fn compare(
     events: &[u16],
     call: Call,
-    lending: usize,
-    way: usize,
-    memory: &mut [usize],
-) -> Reply {
+    lending: Lending,
+    way: Way,
+    memory: &mut Memory,
+) -> Answer {
     let mut kinds = [0u8; 32800];
     let mut tasks = [0u16; 32800];
     let mut operands = [0u16; 32800];
-    compare_in(
-        events,
-        &mut kinds,
-        &mut tasks,
-        &mut operands,
-        call,
-        lending,
-        way,
-        memory,
-    )
+    lay(events, &mut kinds, &mut tasks, &mut operands);
+    let trace = Trace {
+        kinds: &kinds[..call.sizes.kinds.min(32800)],
+        tasks: &tasks[..call.sizes.tasks.min(32800)],
+        operands: &operands[..call.sizes.operands.min(32800)],
+    };
+    let found = find(trace, call, way, memory);
+    let made = made_of(call, found, lending, way);
+    list(trace, made, cells_written(made, found.pairs, way), memory)
 }

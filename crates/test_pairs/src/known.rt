@@ -1,19 +1,20 @@
 // Runs that are told with their pairs, as a table. Each wrong way of the slow list must show in one of them, but for those that take the distance wrong.
-use crate::compare::{EXACT, LENDINGS, compare};
-use test_calls::known::{HEAD, cells_of, cells_told, next_run, told};
+use crate::compare::{LENDINGS, Lending, compare};
+use test_calls::known::{HEAD, next_run, orders_told, told};
 use test_calls::table::read_table;
-use test_calls::{MISMATCH, judging, roomy, same_reply};
-use test_cells::{get, least, more, plus};
-use test_outcome::{Outcome, make_outcome};
-use test_slow::close::{EARLIER, LATER, RIGHT};
+use test_calls::{judging, roomy};
+use test_cells::get;
+use test_outcome::{Fault, Outcome, make_outcome};
+use test_slow::Memory;
+use test_slow::close::Way;
 
 const RUNS: usize = 23;
 
 // As document 01's runs in test_calls: of each run how many events, how many pairs, the answer with its numbers where there is room for all pairs; then the events,
 // and then the earlier and the later positions. Answers how many cells the table has, as read_table does.
-fn read_runs(cells: &mut [u16]) -> usize {
+fn read_runs(cells: &mut [u16]) -> Option<usize> {
     read_table(
-        b"
+        "
 # no events
 0 0 LISTED 0 0 0
 # two writes: unordered, joined, before the fork, of two locations
@@ -51,52 +52,31 @@ fn read_runs(cells: &mut [u16]) -> usize {
     )
 }
 
-// Whether the slow list is what is told of the run at a cell.
-fn list_told(cells: &[u16], at: usize, memory: &[usize]) -> bool {
-    let n = get(cells, more(at));
-    let from = plus(at, plus(HEAD, cells_of(get(cells, at))));
-    let earlier = cells_told(cells, from, n, EARLIER, memory);
-    let later = cells_told(cells, plus(from, n), n, LATER, memory);
-    earlier & later
-}
-
 // Whether the run at a cell is answered as the slow list says and, where that goes the right way and there are cells enough, as is told. Behind its events stand the
 // other runs, which are not lent.
-fn run_agrees(cells: &[u16], at: usize, lending: usize, way: usize, memory: &mut [usize]) -> bool {
-    let from = least(plus(at, HEAD), cells.len());
-    let call = judging(roomy(get(cells, at)), lending);
-    let reply = compare(&cells[from..], call, lending, way, memory);
-    let right = same_reply(reply, told(cells, at)) & list_told(cells, at, memory);
-    (reply.case != MISMATCH) & (right | (way != RIGHT) | (lending != EXACT))
-}
-
-fn all_agree(cells: &[u16], at: usize, way: usize, memory: &mut [usize]) -> bool {
-    let mut lending = 0;
-    while lending < LENDINGS {
-        if !run_agrees(cells, at, lending, way, memory) {
-            return false;
-        }
-        lending += 1;
-    }
-    true
+fn run_agrees(cells: &[u16], at: usize, number: usize, way: Way, memory: &mut Memory) -> bool {
+    let from = at.wrapping_add(HEAD).min(cells.len());
+    let lending = Lending::of(number);
+    let call = judging(roomy(get(cells, at)), number);
+    let answer = compare(&cells[from..], call, lending, way, memory);
+    let right = answer == Ok(told(cells, at)) && orders_told(cells, at, memory);
+    answer.is_ok() && (right || way != Way::Right || lending != Lending::EXACT)
 }
 
 // The table has so many cells: those of its runs, and none behind them.
-fn go_through(cells: &[u16], count: usize, way: usize, memory: &mut [usize]) -> Outcome {
+fn go_through(cells: &[u16], count: Option<usize>, way: Way, memory: &mut Memory) -> Outcome {
     let mut at = 0;
-    let mut i = 0;
-    while i < RUNS {
-        if !all_agree(cells, at, way, memory) {
-            return make_outcome(i, false);
+    for number in 0..RUNS {
+        if !(0..LENDINGS).all(|lending| run_agrees(cells, at, lending, way, memory)) {
+            return Err(Fault { number });
         }
         at = next_run(cells, at);
-        i += 1;
     }
-    make_outcome(i, at == count)
+    make_outcome(RUNS, count == Some(at))
 }
 
 // All runs, with slices of each length, where the slow list goes this way.
-pub fn try_all(way: usize, memory: &mut [usize]) -> Outcome {
+pub fn try_all(way: Way, memory: &mut Memory) -> Outcome {
     let mut cells = [0u16; 640];
     let count = read_runs(&mut cells);
     go_through(&cells, count, way, memory)

@@ -1,15 +1,20 @@
 // Rows 1 to 3 and 20, and the longest traces: slices of many lengths.
+use crate::compare::{Lending, compare};
+use crate::counts::Counts;
 use crate::slow::listed;
 use test_calls::lengths::{lengths, told};
 use test_calls::plants::lay_events;
-use test_calls::table::{read_table, rows};
-use test_calls::{Call, REFUSED, Reply, judging, wanting};
+use test_calls::table::read_rows;
+use test_calls::{Call, judging, wanting};
+use test_outcome::{Fault, Outcome, try_rows};
+use test_slow::Memory;
+use test_slow::close::Way;
 
-// Of each run the lengths of the six slices, with those for the pairs last, and the row by which it is refused, or 0. Answers how many runs there are, 0 if the
-// cells are too few for them.
-fn read_runs(cells: &mut [u16]) -> usize {
-    let count = read_table(
-        b"
+// Of each run the lengths of the six slices, with those for the pairs last, and the row by which it is refused, or 0. Answers how many runs there are, as read_rows
+// does.
+fn read_runs(cells: &mut [u16]) -> Option<usize> {
+    read_rows(
+        "
 # just enough for two pairs, and more than enough
 5 5 5 12293 2 2: 0
 5 5 5 12293 3 2: 0
@@ -38,32 +43,26 @@ fn read_runs(cells: &mut [u16]) -> usize {
 32768 32768 32768 45055 0 0: 3
 ",
         cells,
-    );
-    rows(count, 7)
+        7,
+    )
 }
 
 // There are two pairs.
-fn told_of(reply: Reply) -> Reply {
-    if reply.case < REFUSED {
-        return listed(2);
-    }
-    reply
-}
-
-pub fn count() -> usize {
-    let mut cells = [0u16; 150];
-    read_runs(&mut cells)
-}
-
-fn call_of(run: usize) -> Call {
-    let mut cells = [0u16; 150];
-    read_runs(&mut cells);
-    let want = told_of(told(&cells, run));
-    wanting(judging(lengths(&cells, run), run), want)
+fn call_of(cells: &[u16], run: usize) -> Call {
+    let want = told(cells, run, listed(2));
+    wanting(judging(lengths(cells, run), run), want)
 }
 
 // The events are those of the plants, and behind them reads by task 0. Of 32,768 events the slow list is what was put before.
-pub fn lay(run: usize, events: &mut [u16]) -> Call {
-    lay_events(events);
-    call_of(run)
+pub fn try_all(memory: &mut Memory, counts: &mut Counts) -> Outcome {
+    let mut events = [0u16; 15];
+    let mut cells = [0u16; 150];
+    if lay_events(&mut events).is_none() {
+        return Err(Fault { number: 0 });
+    }
+    let rows = read_runs(&mut cells);
+    try_rows(rows, |run| {
+        let call = call_of(&cells, run);
+        counts.take(compare(&events, call, Lending::AsTold, Way::Right, memory))
+    })
 }

@@ -2,63 +2,59 @@
 #![tactic(auto)]
 
 mod compare;
+mod counts;
 mod far;
 mod known;
 mod lengths;
 mod plants;
 mod random;
 mod slow;
-mod tries;
+mod ways;
 
+use counts::Counts;
 use std::io;
-use test_cells::least;
 use test_outcome::{all_agree, all_noticed, print_all};
-use test_slow::close::RIGHT;
-use tries::{COUNTS, FAR, LENGTHS, MEMORY, PLANTS, RANDOM, WRONG_WAYS, try_all};
+use test_slow::Memory;
+use test_slow::close::Way;
 
-fn run_told(rt: &impl Print, memory: &mut [usize]) -> io::Result<()> {
-    all_agree(rt, "runs that are told: ", known::try_all(RIGHT, memory))?;
-    all_noticed(
+fn run_told(rt: &impl Print, memory: &mut Memory) -> io::Result<()> {
+    all_agree(
         rt,
-        "wrong lists that were noticed: ",
-        try_all(WRONG_WAYS, memory),
+        "runs that are told: ",
+        known::try_all(Way::Right, memory),
     )?;
+    all_noticed(rt, "wrong lists that were noticed: ", ways::try_all(memory))?;
     all_noticed(
         rt,
         "wrong expectations that were noticed: ",
-        try_all(PLANTS, memory),
+        plants::try_all(memory),
     )?;
     Ok(())
 }
 
-fn run_others(rt: &impl Print, memory: &mut [usize]) -> io::Result<()> {
-    all_agree(rt, "lengths of slices: ", try_all(LENGTHS, memory))?;
+fn run_others(rt: &impl Print, memory: &mut Memory, counts: &mut Counts) -> io::Result<()> {
+    all_agree(rt, "lengths of slices: ", lengths::try_all(memory, counts))?;
     all_agree(
         rt,
         "events far apart, and 83300 pairs: ",
-        try_all(FAR, memory),
+        far::try_all(memory, counts),
     )?;
-    all_agree(rt, "traces at random: ", try_all(RANDOM, memory))?;
+    all_agree(rt, "traces at random: ", random::try_all(memory, counts))?;
     Ok(())
 }
 
-fn print_counts(rt: &impl Print, memory: &[usize]) -> io::Result<()> {
-    let from = least(COUNTS, memory.len());
-    let to = from + least(22, memory.len() - from);
+fn run(rt: &impl Print, memory: &mut Memory) -> io::Result<()> {
+    let mut counts = Counts::new();
+    run_told(rt, memory)?;
+    run_others(rt, memory, &mut counts)?;
     print_all(
         rt,
         "  listed; refused 1 to 20; pairs in all:",
-        &memory[from..to],
+        &counts.numbers(),
     )
 }
 
-fn run(rt: &impl Print, memory: &mut [usize; MEMORY]) -> io::Result<()> {
-    run_told(rt, memory)?;
-    run_others(rt, memory)?;
-    print_counts(rt, memory)
-}
-
 fn main(rt: HostRuntime) -> io::Result<()> {
-    let mut memory = [0usize; MEMORY];
+    let mut memory = Memory::new(rt.alloc())?;
     run(&rt, &mut memory)
 }

@@ -1,15 +1,18 @@
 // Wrong expectations: the comparison must notice each of them.
-use test_calls::Call;
+use crate::compare::{Lending, compare};
 use test_calls::plants::{CELLS, lay_events, planted};
-use test_calls::table::{read_table, rows};
-use test_cells::{get, more};
+use test_calls::table::read_rows;
+use test_cells::get;
+use test_outcome::{Fault, Outcome, try_rows};
+use test_slow::Memory;
+use test_slow::close::Way;
 
 // As the judge's plants, on the same events, which make the two pairs 1 4 and 2 4: how many of the events; the lending, 16 for slices of 7 and 8 cells or 9 for 2
 // and 1; the answer that is told, or SLOW for the right one; the buffer and its cell that is expected wrong, with the earlier slice for the first and the later one
-// for the second. But for one thing all is right. Answers how many plants there are, 0 if the cells are too few for them.
-fn read_plants(cells: &mut [u16]) -> usize {
-    let count = read_table(
-        b"
+// for the second. But for one thing all is right. Answers how many plants there are, as read_rows does.
+fn read_plants(cells: &mut [u16]) -> Option<usize> {
+    read_rows(
+        "
 # the answer is that two pairs are listed, and refused 20 0
 5 16 LISTED 1 0 0 none 0
 5 16 LISTED 3 0 0 none 0
@@ -44,28 +47,23 @@ fn read_plants(cells: &mut [u16]) -> usize {
 5 9 SLOW 0 0 0 ws 12293
 ",
         cells,
-    );
-    rows(count, CELLS)
+        CELLS,
+    )
 }
 
-pub fn count() -> usize {
+fn lending_of(cells: &[u16], row: usize) -> Lending {
+    Lending::of(get(cells, ((row % 65536) * CELLS).wrapping_add(1)))
+}
+
+pub fn try_all(memory: &mut Memory) -> Outcome {
+    let mut events = [0u16; 15];
     let mut cells = [0u16; 240];
-    read_plants(&mut cells)
-}
-
-pub fn lending_of(i: usize) -> usize {
-    let mut cells = [0u16; 240];
-    read_plants(&mut cells);
-    get(&cells, more((i % 65536) * CELLS))
-}
-
-fn call_of(i: usize) -> Call {
-    let mut cells = [0u16; 240];
-    read_plants(&mut cells);
-    planted(&cells, i)
-}
-
-pub fn lay(i: usize, events: &mut [u16]) -> Call {
-    lay_events(events);
-    call_of(i)
+    if lay_events(&mut events).is_none() {
+        return Err(Fault { number: 0 });
+    }
+    let rows = read_plants(&mut cells);
+    try_rows(rows, |row| {
+        let lending = lending_of(&cells, row);
+        compare(&events, planted(&cells, row), lending, Way::Right, memory).is_err()
+    })
 }

@@ -1,27 +1,33 @@
 // Many traces at random.
-use crate::compare::{EXACT, LENDINGS};
+use crate::compare::{LENDINGS, Lending, compare};
+use crate::counts::Counts;
 use test_calls::drawn::sizes_of;
-use test_calls::{Call, judging};
+use test_calls::{Answer, judging};
+use test_outcome::{Outcome, try_each};
 use test_samples::draws::{below, next, seed_of, stream};
 use test_samples::make;
+use test_slow::Memory;
+use test_slow::close::Way;
 
-pub const TRACES: usize = 4000;
-
-fn call_of(n: usize, seed: usize) -> Call {
-    judging(sizes_of(n, stream(seed, 5)), seed)
-}
-
-pub fn lay(i: usize, events: &mut [u16]) -> Call {
-    let seed = seed_of(i);
-    let n = make(events, seed);
-    call_of(n, seed)
-}
+const TRACES: usize = 4000;
 
 // Half of them have slices that are just long enough.
-pub fn lending_of(i: usize) -> usize {
-    let seed = stream(seed_of(i), 6);
-    if below(seed, 2) == 0 {
-        return EXACT;
+fn lending_of(seed: usize) -> Lending {
+    let draw = stream(seed, 6);
+    if below(draw, 2) == 0 {
+        return Lending::EXACT;
     }
-    below(next(seed), LENDINGS)
+    Lending::of(below(next(draw), LENDINGS))
+}
+
+fn answer(i: usize, memory: &mut Memory) -> Answer {
+    let seed = seed_of(i);
+    let mut events = [0u16; 12300];
+    let n = make(&mut events, seed);
+    let call = judging(sizes_of(n, stream(seed, 5)), seed);
+    compare(&events, call, lending_of(seed), Way::Right, memory)
+}
+
+pub fn try_all(memory: &mut Memory, counts: &mut Counts) -> Outcome {
+    try_each(TRACES, |i| counts.take(answer(i, memory)))
 }

@@ -1,271 +1,208 @@
 // One call of the reader in dirty slices of three lengths: its answer, every cell that it was lent and some behind them are held to what the slow reader says.
-use crate::memory::TALLY;
-use crate::slow_reader::read;
-use crate::slow_trace::event_at;
-use crate::want::{Cells, MISMATCH, Want, events_of, lent, make_want, same_want, want_of, wanted};
-use crate::wrong;
-use plan_reader::translate;
-use test_cells::{get, get_byte, get_word, least, minus, more, plus, put, put_byte, put_word};
-use test_samples::events::{Event, make_event};
+ghost use Rattle.std.specs.Prelude.{◌≤◌};
 
-// The room of the slices, a salt for the dirt, and the wrong rule that the slow reader goes by, if any.
+use crate::slow_reader::read;
+use crate::slow_trace::SlowTrace;
+use crate::want::{Answer, Cells, events_of, lent, wanted};
+use crate::wrong::{Part, Wrong};
+use plan_reader::translate;
+use trace::{Event, Refusal, Row};
+
+// The room of the slices, if they have any, a salt for the dirt, and the wrong rule that the slow reader goes by, if any.
 #[derive(Clone, Copy)]
 pub struct Call {
-    pub room: Cells,
+    pub room: Option<Cells>,
     pub salt: usize,
-    pub plant: usize,
+    pub plant: Option<Wrong>,
 }
 
-pub fn make_call(room: Cells, salt: usize, plant: usize) -> Call {
-    Call { room, salt, plant }
-}
+// The answer, or a cell, is not as it must be.
+#[derive(Clone, Copy, PartialEq, Eq)]
+pub struct Mismatch;
 
 // Cells behind those that are lent, which must stay as they are.
 const SPARE: usize = 4;
 
 // ---- cells
 
-fn dirt(i: usize, salt: usize) -> usize {
-    ((i % 65536) * 40503 + salt % 65536) % 65536
+fn dirt(i: usize, salt: usize) -> u16 {
+    (((i % 65536) * 40503 + salt % 65536) % 65536) as u16
 }
 
 // What stands in cell i of the slices before a call.
 fn dirty_event(i: usize, salt: usize) -> Event {
-    make_event(
-        dirt(i, plus(salt, 77)),
-        dirt(i, salt) % 256,
-        dirt(i, plus(salt, 777)),
-    )
-}
-
-fn soil(kinds: &mut [u8], tasks: &mut [u16], operands: &mut [u16], n: usize, salt: usize) {
-    let mut i = 0;
-    while i < n {
-        let event = dirty_event(i, salt);
-        put_byte(kinds, i, event.kind);
-        put(tasks, i, event.task);
-        put(operands, i, event.operand);
-        i += 1;
+    Event {
+        kind: (dirt(i, salt) % 256) as u8,
+        task: dirt(i, salt.wrapping_add(77)),
+        operand: dirt(i, salt.wrapping_add(777)),
     }
 }
 
-// What the first n cells of the slices must hold: so many events, and behind them the dirt of the salt.
+// An event with one of its three numbers changed.
+fn with_fault(event: Event, part: Part) -> Event {
+    match part {
+        Part::Kind => Event {
+            kind: event.kind.wrapping_add(1),
+            ..event
+        },
+        Part::Task => Event {
+            task: event.task.wrapping_add(1),
+            ..event
+        },
+        Part::Operand => Event {
+            operand: event.operand.wrapping_add(1),
+            ..event
+        },
+    }
+}
+
+// What the slices must hold: so many events, and behind them the dirt of the salt.
 #[derive(Clone, Copy)]
 struct Expected {
-    n: usize,
     events: usize,
     salt: usize,
-    plant: usize,
+    plant: Option<Wrong>,
 }
 
-fn right_event(memory: &[usize], expected: Expected, i: usize) -> Event {
-    if i < expected.events {
-        return event_at(memory, i);
-    }
-    dirty_event(i, expected.salt)
-}
-
-// An event with one of its three numbers changed, or else as it is.
-fn with_fault(event: Event, number: usize) -> Event {
-    match number {
-        0 => make_event(event.task, more(event.kind), event.operand),
-        1 => make_event(more(event.task), event.kind, event.operand),
-        2 => make_event(event.task, event.kind, more(event.operand)),
-        _ => event,
-    }
-}
-
-fn expected_event(memory: &[usize], expected: Expected, i: usize) -> Event {
-    let event = right_event(memory, expected, i);
-    if i == 0 {
-        return with_fault(event, minus(expected.plant, wrong::FIRST));
-    }
-    if i == expected.events {
-        return with_fault(event, minus(expected.plant, wrong::BEHIND));
-    }
-    event
-}
-
-fn same_event(x: Event, y: Event) -> bool {
-    (x.kind == y.kind) & (x.task == y.task) & (x.operand == y.operand)
-}
-
-fn holds(
-    kinds: &[u8],
-    tasks: &[u16],
-    operands: &[u16],
-    memory: &[usize],
-    expected: Expected,
-) -> bool {
-    let mut i = 0;
-    while i < expected.n {
-        let event = make_event(get(tasks, i), get_byte(kinds, i), get(operands, i));
-        if !same_event(event, expected_event(memory, expected, i)) {
-            return false;
+impl Expected {
+    fn right_event(self, trace: &SlowTrace, i: usize) -> Event {
+        let dirty = dirty_event(i, self.salt);
+        if self.events <= i {
+            return dirty;
         }
-        i += 1;
+        trace.event_at(i).unwrap_or(dirty)
     }
-    true
+
+    fn event(self, trace: &SlowTrace, i: usize) -> Event {
+        let event = self.right_event(trace, i);
+        match self.plant {
+            Some(Wrong::First(part)) if i == 0 => with_fault(event, part),
+            Some(Wrong::Behind(part)) if i == self.events => with_fault(event, part),
+            _ => event,
+        }
+    }
 }
 
 // ---- calls
 
-// The reader's answer where it is lent so many cells.
-fn answer(
+// Whether the reader, lent some of N cells, answers so and leaves the first n cells as they must be.
+fn held_in<const N: usize>(
     text: &[u8],
-    kinds: &mut [u8],
-    tasks: &mut [u16],
-    operands: &mut [u16],
     lent: Cells,
-) -> Want {
-    let k = least(lent.kinds, kinds.len());
-    let t = least(lent.tasks, tasks.len());
-    let o = least(lent.operands, operands.len());
-    want_of(translate(
-        text,
-        &mut kinds[0..k],
-        &mut tasks[0..t],
-        &mut operands[0..o],
-    ))
-}
-
-fn held_in(
-    text: &[u8],
-    kinds: &mut [u8],
-    tasks: &mut [u16],
-    operands: &mut [u16],
-    lent: Cells,
+    n: usize,
     expected: Expected,
-    want: Want,
-    memory: &[usize],
-) -> bool {
-    soil(kinds, tasks, operands, expected.n, expected.salt);
-    let said = answer(text, kinds, tasks, operands, lent);
-    let cells = holds(kinds, tasks, operands, memory, expected);
-    same_want(said, want) & cells
-}
-
-fn held_in_few(
-    text: &[u8],
-    kinds: &mut [u8; 64],
-    tasks: &mut [u16; 64],
-    operands: &mut [u16; 64],
-    lent: Cells,
-    expected: Expected,
-    want: Want,
-    memory: &[usize],
-) -> bool {
-    held_in(text, kinds, tasks, operands, lent, expected, want, memory)
-}
-
-fn held_in_many(
-    text: &[u8],
-    kinds: &mut [u8; 32800],
-    tasks: &mut [u16; 32800],
-    operands: &mut [u16; 32800],
-    lent: Cells,
-    expected: Expected,
-    want: Want,
-    memory: &[usize],
-) -> bool {
-    held_in(text, kinds, tasks, operands, lent, expected, want, memory)
-}
-
-// In few cells, which are quickly made.
-fn few_held(text: &[u8], lent: Cells, expected: Expected, want: Want, memory: &[usize]) -> bool {
-    let mut kinds = [0u8; 64];
-    let mut tasks = [0u16; 64];
-    let mut operands = [0u16; 64];
-    held_in_few(
-        text,
-        &mut kinds,
-        &mut tasks,
-        &mut operands,
-        lent,
-        expected,
-        want,
-        memory,
-    )
-}
-
-fn many_held(text: &[u8], lent: Cells, expected: Expected, want: Want, memory: &[usize]) -> bool {
-    let mut kinds = [0u8; 32800];
-    let mut tasks = [0u16; 32800];
-    let mut operands = [0u16; 32800];
-    held_in_many(
-        text,
-        &mut kinds,
-        &mut tasks,
-        &mut operands,
-        lent,
-        expected,
-        want,
-        memory,
-    )
-}
-
-fn most(lent: Cells) -> usize {
-    let two = if lent.kinds < lent.tasks {
-        lent.tasks
-    } else {
-        lent.kinds
-    };
-    if two < lent.operands {
-        lent.operands
-    } else {
-        two
+    want: Answer,
+    trace: &SlowTrace,
+) -> bool
+    requires { N ≤ 32800 }
+{
+    let mut kinds = [0u8; N];
+    let mut tasks = [0u16; N];
+    let mut operands = [0u16; N];
+    for i in 0..n.min(N) {
+        let event = dirty_event(i, expected.salt);
+        kinds[i] = event.kind;
+        tasks[i] = event.task;
+        operands[i] = event.operand;
     }
+    let said = translate(
+        text,
+        &mut kinds[..lent.kinds.min(N)],
+        &mut tasks[..lent.tasks.min(N)],
+        &mut operands[..lent.operands.min(N)],
+    );
+    let holds = (0..n.min(N)).all(|i| {
+        let event = Event {
+            kind: kinds[i],
+            task: tasks[i],
+            operand: operands[i],
+        };
+        event == expected.event(trace, i)
+    });
+    holds && said == want
 }
 
-fn held(text: &[u8], lent: Cells, call: Call, want: Want, memory: &[usize]) -> bool {
-    let n = plus(most(lent), SPARE);
+fn held(text: &[u8], lent: Cells, call: Call, want: Answer, trace: &SlowTrace) -> bool {
     let expected = Expected {
-        n,
-        events: if want.row == 0 { want.number } else { 0 },
+        events: want.unwrap_or(0),
         salt: call.salt,
         plant: call.plant,
     };
+    let n = lent.most().wrapping_add(SPARE);
+    // Few cells are quickly made.
     if n <= 64 {
-        return few_held(text, lent, expected, want, memory);
+        return held_in::<64>(text, lent, n, expected, want, trace);
     }
-    many_held(text, lent, expected, want, memory)
+    held_in::<32800>(text, lent, n, expected, want, trace)
 }
 
-// What the reader answers to a text where the slow one reads another, or MISMATCH.
-pub fn compare_two(text: &[u8], other: &[u8], call: Call, memory: &mut [usize]) -> Want {
-    let reading = read(other, memory, call.plant);
+// What the reader answers to a text where the slow one reads another.
+pub fn compare_two(
+    text: &[u8],
+    other: &[u8],
+    call: Call,
+    trace: &mut SlowTrace,
+) -> Result<Answer, Mismatch> {
+    let reading = read(other, call.plant);
     let lent = lent(events_of(reading), call.room);
-    let want = wanted(other, reading, lent, memory, call.plant);
-    if held(text, lent, call, want, memory) {
-        return want;
+    let want = wanted(other, reading, lent, trace, call.plant);
+    if held(text, lent, call, want, trace) {
+        return Ok(want);
     }
-    make_want(MISMATCH, 0)
+    Err(Mismatch)
 }
 
-pub fn compare(text: &[u8], call: Call, memory: &mut [usize]) -> Want {
-    compare_two(text, text, call, memory)
+pub fn compare(text: &[u8], call: Call, trace: &mut SlowTrace) -> Result<Answer, Mismatch> {
+    compare_two(text, text, call, trace)
 }
 
 // ---- counts
 
-// The cells of a group: how many plans were accepted, how many met rows 17, 18 and 19, and what else it counts.
-pub fn tally_cell(group: usize, i: usize) -> usize {
-    plus(TALLY, plus((group % 16) * 8, i))
+// How many plans were accepted, how many met rows 17, 18 and 19, how many traces are clean and how many race, and of how many pairs of leaves the first reaches
+// the second, and of how many it does not.
+#[derive(Clone, Copy)]
+pub struct Tally {
+    pub accepted: usize,
+    pub stray: usize,
+    pub deep: usize,
+    pub large: usize,
+    pub clean: usize,
+    pub races: usize,
+    pub reach: usize,
+    pub apart: usize,
 }
 
-pub fn count(memory: &mut [usize], cell: usize) {
-    put_word(memory, cell, more(get_word(memory, cell)));
-}
-
-fn place_of(row: usize) -> usize {
-    if row == 0 { 0 } else { minus(row, 16) }
-}
-
-// Counts an answer, and says whether it is one.
-pub fn agreed(want: Want, group: usize, memory: &mut [usize]) -> bool {
-    if want.row == MISMATCH {
-        return false;
+impl Tally {
+    pub fn new() -> Tally {
+        Tally {
+            accepted: 0,
+            stray: 0,
+            deep: 0,
+            large: 0,
+            clean: 0,
+            races: 0,
+            reach: 0,
+            apart: 0,
+        }
     }
-    count(memory, tally_cell(group, place_of(want.row)));
-    true
+
+    fn refused(&mut self, refusal: Refusal) {
+        if refusal.number == Row::NoPlan.number() {
+            self.stray = self.stray.wrapping_add(1);
+        } else if refusal.number == Row::DeepPlan.number() {
+            self.deep = self.deep.wrapping_add(1);
+        } else {
+            self.large = self.large.wrapping_add(1);
+        }
+    }
+
+    // Counts an answer, and says whether it is one.
+    pub fn agreed(&mut self, answer: Result<Answer, Mismatch>) -> bool {
+        match answer {
+            Ok(Ok(_)) => self.accepted = self.accepted.wrapping_add(1),
+            Ok(Err(refusal)) => self.refused(refusal),
+            Err(Mismatch) => return false,
+        }
+        true
+    }
 }

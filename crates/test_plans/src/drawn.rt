@@ -1,7 +1,5 @@
-// Plans at random, and damage to their texts. A plan is drawn byte by byte, with a stack of its open levels, to the draft in the memory.
-use crate::letters::{CLOSE, COMMA, OPEN, PARALLEL, SERIES, ZERO};
-use crate::memory::{DRAFT, DRAFT_BYTES, SIDES};
-use test_cells::{get_byte, get_word, less, more, plus, put_byte, put_word};
+// Plans at random, and damage to their texts. A plan is drawn byte by byte, with a stack of its open levels.
+use crate::texts::Text;
 use test_samples::draws::{below, next, stream};
 
 // ---- shapes
@@ -22,7 +20,7 @@ pub struct Shape {
 
 // Of 64 plans so many are operators, on the one side and on the other.
 fn side_of(seed: usize, leaning: usize) -> usize {
-    match plus(below(seed, 3), leaning) % 3 {
+    match below(seed, 3).wrapping_add(leaning) % 3 {
         0 => 32,
         1 => 3,
         _ => 62,
@@ -42,195 +40,174 @@ pub fn shape_of(seed: usize, operators: usize) -> Shape {
     let a = stream(seed, 1);
     let b = stream(seed, 2);
     Shape {
-        deepest: plus(1, below(a, 66)),
+        deepest: below(a, 66).wrapping_add(1),
         operators,
         left: side_of(b, 0),
-        right: side_of(b, plus(1, below(next(b), 2))),
+        right: side_of(b, below(next(b), 2).wrapping_add(1)),
         parallels: below(stream(seed, 3), 17),
-        letters: plus(1, below(stream(seed, 4), 6)),
+        letters: below(stream(seed, 4), 6).wrapping_add(1),
         locations: locations_of(stream(seed, 5)),
     }
 }
 
 // ---- the draft
 
-// How many bytes are drawn, how many levels are open, and how many operators there are; whether a plan is due, or what stands behind one; whether the plan is
-// whole; and the draws' state.
-#[derive(Clone, Copy)]
+// More turns than a plan takes, and more levels than it has.
+const TURNS: usize = 8192;
+
+const LEVELS: usize = 128;
+
+// The operand in which an open level stands.
+#[derive(Clone, Copy, PartialEq, Eq)]
+enum Operand {
+    Left,
+    Right,
+}
+
+// What is due: a plan, or what stands behind one.
+#[derive(Clone, Copy, PartialEq, Eq)]
+enum Due {
+    Plan,
+    Behind,
+}
+
+// The levels that are open, and how many operators there are; what is due; and the draws' state.
+#[derive(Drop)]
 struct Growth {
-    used: usize,
     depth: usize,
+    levels: [Operand; LEVELS],
     operators: usize,
-    due: bool,
-    done: bool,
+    due: Due,
     seed: usize,
 }
 
-fn write(memory: &mut [usize], mut now: Growth, byte: usize) -> Growth {
-    put_word(memory, plus(DRAFT, now.used % DRAFT_BYTES), byte);
-    now.used = more(now.used);
-    now
-}
-
-// The digit of a number at a place, unless it would lead with a zero.
-fn write_digit(memory: &mut [usize], now: Growth, number: usize, place: usize) -> Growth {
-    if (number < place) & (1 < place) {
-        return now;
+fn add_number(text: &mut Text, number: usize) {
+    for place in [1000, 100, 10, 1] {
+        if place <= number || place == 1 {
+            text.push(b"0123456789"[number / place % 10]);
+        }
     }
-    let digit = if place == 0 { 0 } else { number / place % 10 };
-    write(memory, now, plus(ZERO, digit))
 }
 
-fn write_number(memory: &mut [usize], now: Growth, number: usize) -> Growth {
-    let a = write_digit(memory, now, number, 1000);
-    let b = write_digit(memory, a, number, 100);
-    let c = write_digit(memory, b, number, 10);
-    write_digit(memory, c, number, 1)
-}
-
-fn write_leaf(memory: &mut [usize], before: Growth, shape: Shape) -> Growth {
-    let letter = get_byte(b"rwsrrs", below(stream(before.seed, 6), shape.letters));
-    let location = below(stream(before.seed, 7), shape.locations);
-    let begun = write(memory, before, letter);
-    let mut now = write_number(memory, begun, location);
-    now.due = false;
-    now
-}
-
-fn write_operator(memory: &mut [usize], before: Growth, shape: Shape) -> Growth {
-    let parallel = below(stream(before.seed, 8), 16) < shape.parallels;
-    let begun = write(memory, before, if parallel { PARALLEL } else { SERIES });
-    let mut now = write(memory, begun, OPEN);
-    put_word(memory, plus(SIDES, now.depth), 0);
-    now.depth = more(now.depth);
-    now.operators = more(now.operators);
-    now
-}
-
-fn side(memory: &[usize], now: Growth) -> usize {
-    get_word(memory, plus(SIDES, less(now.depth)))
-}
-
-// The first plan is an operator if there may be any.
-fn wants_operator(now: Growth, shape: Shape, side: usize) -> bool {
-    let chance = if side == 0 { shape.left } else { shape.right };
-    let drawn = (below(stream(now.seed, 9), 64) < chance) | (now.depth == 0);
-    drawn & (now.depth < shape.deepest) & (now.operators < shape.operators)
-}
-
-fn write_plan(memory: &mut [usize], now: Growth, shape: Shape) -> Growth {
-    let side = side(memory, now);
-    if wants_operator(now, shape, side) {
-        return write_operator(memory, now, shape);
+impl Growth {
+    // The operand in which the innermost open level stands.
+    fn side(&self) -> Option<Operand> {
+        self.levels.get(self.depth.wrapping_sub(1)).copied()
     }
-    write_leaf(memory, now, shape)
-}
 
-// The comma behind a left operand, or the bracket behind a right one.
-fn write_mark(memory: &mut [usize], before: Growth) -> Growth {
-    let left = side(memory, before) == 0;
-    let mut now = write(memory, before, if left { COMMA } else { CLOSE });
-    put_word(memory, plus(SIDES, less(now.depth)), 1);
-    now.depth = if left { now.depth } else { less(now.depth) };
-    now.due = left;
-    now
-}
-
-fn step(memory: &mut [usize], mut now: Growth, shape: Shape) -> Growth {
-    now.seed = next(now.seed);
-    if now.due {
-        return write_plan(memory, now, shape);
+    fn add_leaf(&mut self, text: &mut Text, shape: Shape) {
+        let letter = below(stream(self.seed, 6), shape.letters);
+        text.push(b"rwsrrs"[letter % 6]);
+        add_number(text, below(stream(self.seed, 7), shape.locations));
+        self.due = Due::Behind;
     }
-    if now.depth == 0 {
-        now.done = true;
-        return now;
+
+    fn add_operator(&mut self, text: &mut Text, shape: Shape) {
+        let parallel = below(stream(self.seed, 8), 16) < shape.parallels;
+        text.push(if parallel { b'P' } else { b'S' });
+        text.push(b'(');
+        if self.depth < LEVELS {
+            self.levels[self.depth] = Operand::Left;
+            self.depth += 1;
+        }
+        self.operators = self.operators.wrapping_add(1);
     }
-    write_mark(memory, now)
+
+    // The first plan is an operator if there may be any.
+    fn wants_operator(&self, shape: Shape) -> bool {
+        let right = self.side() == Some(Operand::Right);
+        let chance = if right { shape.right } else { shape.left };
+        let drawn = below(stream(self.seed, 9), 64) < chance || self.depth == 0;
+        drawn && self.depth < shape.deepest && self.operators < shape.operators
+    }
+
+    // The comma behind a left operand, or the bracket behind a right one. False where the plan is whole.
+    fn add_mark(&mut self, text: &mut Text) -> bool {
+        if self.depth == 0 || LEVELS < self.depth {
+            return false;
+        }
+        let top = self.depth - 1;
+        match self.levels[top] {
+            Operand::Left => {
+                text.push(b',');
+                self.levels[top] = Operand::Right;
+                self.due = Due::Plan;
+            }
+            Operand::Right => {
+                text.push(b')');
+                self.depth = top;
+            }
+        }
+        true
+    }
+
+    // False where the plan is whole.
+    fn step(&mut self, text: &mut Text, shape: Shape) -> bool {
+        self.seed = next(self.seed);
+        match self.due {
+            Due::Plan if self.wants_operator(shape) => self.add_operator(text, shape),
+            Due::Plan => self.add_leaf(text, shape),
+            Due::Behind => return self.add_mark(text),
+        }
+        true
+    }
 }
 
-// Draws a plan. Answers the number of its bytes.
-pub fn draw(memory: &mut [usize], shape: Shape, seed: usize) -> usize {
-    let mut now = Growth {
-        used: 0,
+// Draws a plan.
+pub fn draw(text: &mut Text, shape: Shape, seed: usize) {
+    let mut growth = Growth {
         depth: 0,
+        levels: [Operand::Left; LEVELS],
         operators: 0,
-        due: true,
-        done: false,
+        due: Due::Plan,
         seed,
     };
-    let mut i = 0;
-    while i < DRAFT_BYTES {
-        if now.done {
-            return now.used;
+    text.clear();
+    for _ in 0..TURNS {
+        if !growth.step(text, shape) {
+            return;
         }
-        now = step(memory, now, shape);
-        i += 1;
     }
-    now.used
 }
 
 // ---- damage
 
-// What becomes of the byte at a place: 0 nothing; 1 it is another byte; 2 it is removed; 3 a byte is put in before it; 4 the text ends before it.
+// What becomes of the byte at a place: it is another byte, it is removed, a byte is put in before it, or the text ends before it.
 #[derive(Clone, Copy)]
-pub struct Damage {
-    pub kind: usize,
-    pub at: usize,
-    pub byte: usize,
+enum Damage {
+    Changed(u8),
+    Removed,
+    Inserted(u8),
+    Cut,
 }
 
-pub fn no_damage() -> Damage {
-    Damage {
-        kind: 0,
-        at: 0,
-        byte: 0,
-    }
-}
-
-// To a text of so many bytes.
-pub fn damage_of(seed: usize, used: usize) -> Damage {
+fn damage_of(seed: usize) -> Damage {
     let bytes = b"SPrws(),0123456789SP(),0123\n\0 xR[";
-    Damage {
-        kind: plus(1, below(stream(seed, 10), 4)),
-        at: below(stream(seed, 11), used),
-        byte: get_byte(bytes, below(stream(seed, 12), bytes.len())),
+    let byte = bytes[below(stream(seed, 12), bytes.len()) % bytes.len()];
+    match below(stream(seed, 10), 4) {
+        0 => Damage::Changed(byte),
+        1 => Damage::Removed,
+        2 => Damage::Inserted(byte),
+        _ => Damage::Cut,
     }
 }
 
-fn length_of(damage: Damage, used: usize) -> usize {
-    let kind = damage.kind;
-    match kind {
-        2 => less(used),
-        3 => more(used),
-        4 => damage.at,
-        _ => used,
+// The draft as a text, with damage at one place.
+pub fn spoil(text: &mut Text, draft: &[u8], seed: usize) {
+    let at = below(stream(seed, 11), draft.len()).min(draft.len());
+    let behind = at.wrapping_add(1).min(draft.len());
+    text.clear();
+    text.add(&draft[..at]);
+    match damage_of(seed) {
+        Damage::Changed(byte) => {
+            text.push(byte);
+            text.add(&draft[behind..]);
+        }
+        Damage::Removed => text.add(&draft[behind..]),
+        Damage::Inserted(byte) => {
+            text.push(byte);
+            text.add(&draft[at..]);
+        }
+        Damage::Cut => {}
     }
-}
-
-// From where in the draft byte i of the text comes.
-fn source_of(damage: Damage, i: usize) -> usize {
-    let kind = damage.kind;
-    match kind {
-        2 => if damage.at <= i { more(i) } else { i },
-        3 => if damage.at < i { less(i) } else { i },
-        _ => i,
-    }
-}
-
-fn byte_of(memory: &[usize], damage: Damage, i: usize) -> usize {
-    if (i == damage.at) & ((damage.kind == 1) | (damage.kind == 3)) {
-        return damage.byte;
-    }
-    get_word(memory, plus(DRAFT, source_of(damage, i)))
-}
-
-// The draft's first bytes as a text, with the damage. Answers how many bytes it has.
-pub fn copy(text: &mut [u8], memory: &[usize], used: usize, damage: Damage) -> usize {
-    let n = length_of(damage, used);
-    let mut i = 0;
-    while i < n {
-        put_byte(text, i, byte_of(memory, damage, i));
-        i += 1;
-    }
-    n
 }

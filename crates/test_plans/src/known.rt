@@ -1,12 +1,11 @@
 // Texts whose answers are told, those that document 02 tells among them, and those at the limits, each in slices of seven lengths; and three whose traces are
 // told.
-use crate::compare::{agreed, compare, make_call};
-use crate::letters::extend;
-use crate::recipes::{field, lay, start_of};
-use crate::slow_trace::event_at;
-use crate::want::{Cells, NO_CELLS, Want, make_cells, make_want, same_want};
-use crate::wrong::NOTHING;
-use test_cells::{get_byte, least, plus};
+use crate::compare::{Call, Tally, compare};
+use crate::recipes::{field, lay, line_of};
+use crate::slow_trace::SlowTrace;
+use crate::texts::Text;
+use crate::want::{Answer, Cells};
+use trace::{Refusal, Row};
 
 // ---- answers
 
@@ -16,51 +15,55 @@ pub const TEXTS: usize = 86;
 pub const ROOMS: usize = 7;
 
 // More cells than needed, exactly enough, one too few in each slice, none in each, and one too few in all.
-fn room_of(i: usize) -> Cells {
+fn room_of(i: usize) -> Option<Cells> {
     match i {
-        0 => make_cells(2, 4, 3),
-        1 => make_cells(1, 1, 1),
-        2 => make_cells(0, 1, 2),
-        3 => make_cells(2, 0, 1),
-        4 => make_cells(1, 2, 0),
-        5 => make_cells(NO_CELLS, NO_CELLS, NO_CELLS),
-        _ => make_cells(0, 0, 0),
+        0 => Some(Cells::new(2, 4, 3)),
+        1 => Some(Cells::new(1, 1, 1)),
+        2 => Some(Cells::new(0, 1, 2)),
+        3 => Some(Cells::new(2, 0, 1)),
+        4 => Some(Cells::new(1, 2, 0)),
+        5 => None,
+        _ => Some(Cells::new(0, 0, 0)),
     }
 }
 
 // Too few cells refuse what would be accepted.
-fn told_in(told: Want, room: usize) -> Want {
-    if (1 < room) & (told.row == 0) {
-        return make_want(19, 0);
+fn told_in(told: Answer, room: usize) -> Answer {
+    if 1 < room && told.is_ok() {
+        return Err(Row::LargePlan.into());
     }
     told
 }
 
-fn text_agrees(text: &[u8], told: Want, room: usize, group: usize, memory: &mut [usize]) -> bool {
-    let want = compare(text, make_call(room_of(room), room, NOTHING), memory);
-    let counted = agreed(want, group, memory);
-    same_want(want, told_in(told, room)) & counted
-}
-
-fn line_agrees(
-    text: &mut [u8],
-    table: &[u8],
-    i: usize,
-    group: usize,
-    memory: &mut [usize],
+fn text_agrees(
+    text: &[u8],
+    told: Answer,
+    room: usize,
+    trace: &mut SlowTrace,
+    tally: &mut Tally,
 ) -> bool {
-    let start = start_of(table, i / ROOMS);
-    let told = make_want(field(table, start, 0), field(table, start, 1));
-    let laid = lay(text, table, start, 2);
-    let n = least(laid, text.len());
-    text_agrees(&text[0..n], told, i % ROOMS, group, memory)
+    let call = Call {
+        room: room_of(room),
+        salt: room,
+        plant: None,
+    };
+    let answer = compare(text, call, trace);
+    tally.agreed(answer) && answer == Ok(told_in(told, room))
 }
 
-// The row that is met and its position, or 0 and the number of events; then the text, as a recipe.
-pub fn answer_agrees(text: &mut [u8], i: usize, group: usize, memory: &mut [usize]) -> bool {
-    line_agrees(
-        text,
-        b"0 6 S(w3,P(r3,r3))
+// The row that is met and its position, or 0 and the number of events.
+fn told_of(line: &str) -> Answer {
+    let number = field(line, 0);
+    let position = field(line, 1);
+    if number == 0 {
+        Ok(position)
+    } else {
+        Err(Refusal { number, position })
+    }
+}
+
+// In each line the answer, and the text as a recipe.
+const ANSWERS: &str = "0 6 S(w3,P(r3,r3))
 0 1 r0
 0 1 w1023
 0 1 s10
@@ -89,7 +92,7 @@ pub fn answer_agrees(text: &mut [u8], i: usize, group: usize, memory: &mut [usiz
 17 2 r1,r1
 17 2 r1)
 17 0 (r1,r1)
-17 0 \xff
+17 0 !
 17 1 S
 17 1 Sr1
 17 1 s(r1,r1)
@@ -154,67 +157,55 @@ pub fn answer_agrees(text: &mut [u8], i: usize, group: usize, memory: &mut [usiz
 17 245755 S( 15^S( , 13^S( x
 17 245755 S( 15^S( , 13^S(
 18 196733 S( 15^S( , 63*P( S
-",
-        i,
-        group,
-        memory,
-    )
+";
+
+// The i-th of the texts, each in all rooms.
+pub fn answer_agrees(text: &mut Text, i: usize, trace: &mut SlowTrace, tally: &mut Tally) -> bool {
+    let line = line_of(ANSWERS, i / ROOMS);
+    lay(text, line, 2);
+    text_agrees(text.bytes(), told_of(line), i % ROOMS, trace, tally)
 }
 
 // ---- traces
 
-fn digit(told: &[u8], at: usize) -> usize {
-    extend(0, get_byte(told, at))
+// Three digits of each event are told: its kind, task and operand.
+fn event_told(trace: &SlowTrace, p: usize, told: &str) -> bool {
+    let Some(event) = trace.event_at(p) else {
+        return false;
+    };
+    match told.as_bytes() {
+        [kind, task, operand] => {
+            usize::from(event.kind) + 48 == usize::from(*kind)
+                && usize::from(event.task) + 48 == usize::from(*task)
+                && usize::from(event.operand) + 48 == usize::from(*operand)
+        }
+        _ => false,
+    }
 }
 
-// Whether event p has the kind, the task and the operand that are told.
-fn event_told(memory: &[usize], told: &[u8], p: usize) -> bool {
-    let at = (p % 256) * 4;
-    let event = event_at(memory, p);
-    let kind = event.kind == digit(told, at);
-    let task = event.task == digit(told, plus(at, 1));
-    kind & task & (event.operand == digit(told, plus(at, 2)))
-}
-
-fn events_told(memory: &[usize], told: &[u8]) -> bool {
-    let n = told.len() / 4;
-    let mut p = 0;
-    while p < n {
-        if !event_told(memory, told, p) {
+fn trace_told(text: &[u8], told: &str, trace: &mut SlowTrace, tally: &mut Tally) -> bool {
+    let events = told.split(' ').count();
+    if !text_agrees(text, Ok(events), 0, trace, tally) {
+        return false;
+    }
+    for (p, event) in told.split(' ').enumerate() {
+        if !event_told(trace, p, event) {
             return false;
         }
-        p += 1;
     }
     true
 }
 
-// Three digits of each event are told, and a blank.
-fn trace_told(text: &[u8], told: &[u8], group: usize, memory: &mut [usize]) -> bool {
-    let answer = text_agrees(text, make_want(0, told.len() / 4), 0, group, memory);
-    events_told(memory, told) & answer
-}
-
 pub const TRACES: usize = 3;
 
-pub fn trace_agrees(i: usize, group: usize, memory: &mut [usize]) -> bool {
-    match i {
-        0 => trace_told(
-            b"S(w3,P(r3,r3))",
-            b"103 201 013 410 003 301 ",
-            group,
-            memory,
+pub fn trace_agrees(i: usize, trace: &mut SlowTrace, tally: &mut Tally) -> bool {
+    let (text, told) = match i {
+        0 => ("S(w3,P(r3,r3))", "103 201 013 410 003 301"),
+        1 => (
+            "P(P(P(r1,w2),s3),r4)",
+            "201 212 223 031 432 122 323 421 513 312 410 004 301",
         ),
-        1 => trace_told(
-            b"P(P(P(r1,w2),s3),r4)",
-            b"201 212 223 031 432 122 323 421 513 312 410 004 301 ",
-            group,
-            memory,
-        ),
-        _ => trace_told(
-            b"P(r1,P(w2,s3))",
-            b"201 011 410 202 122 420 503 302 301 ",
-            group,
-            memory,
-        ),
-    }
+        _ => ("P(r1,P(w2,s3))", "201 011 410 202 122 420 503 302 301"),
+    };
+    trace_told(text.as_bytes(), told, trace, tally)
 }

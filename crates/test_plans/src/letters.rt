@@ -1,41 +1,15 @@
-// The bytes of plans, as numbers.
-use test_cells::{minus, plus};
+// The bytes of plans.
 
-pub const READ: usize = b'r' as usize;
-
-pub const WRITE: usize = b'w' as usize;
-
-pub const SUM: usize = b's' as usize;
-
-pub const SERIES: usize = b'S' as usize;
-
-pub const PARALLEL: usize = b'P' as usize;
-
-pub const OPEN: usize = b'(' as usize;
-
-pub const COMMA: usize = b',' as usize;
-
-pub const CLOSE: usize = b')' as usize;
-
-pub const ZERO: usize = b'0' as usize;
-
-pub const NINE: usize = b'9' as usize;
-
-pub const BLANK: usize = b' ' as usize;
-
-pub fn is_leaf(byte: usize) -> bool {
-    (byte == READ) | (byte == WRITE) | (byte == SUM)
+// A byte of a text, or 0, which stands in no plan, past the end.
+pub fn byte_at(text: &[u8], at: usize) -> u8 {
+    text.get(at).copied().unwrap_or(0)
 }
 
-pub fn is_operator(byte: usize) -> bool {
-    (byte == SERIES) | (byte == PARALLEL)
-}
-
-pub fn is_digit(byte: usize) -> bool {
-    (ZERO <= byte) & (byte <= NINE)
+pub fn is_leaf(byte: u8) -> bool {
+    matches!(byte, b'r' | b'w' | b's')
 }
 
 // A number with a digit more.
-pub fn extend(value: usize, digit: usize) -> usize {
-    plus((value % 65536) * 10, minus(digit, ZERO))
+pub fn extend(value: usize, digit: u8) -> usize {
+    (value % 65536) * 10 + usize::from(digit.wrapping_sub(b'0'))
 }

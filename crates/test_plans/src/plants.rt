@@ -1,52 +1,43 @@
 // That the comparison can fail: with each wrong rule the slow reader must differ from the fast one, and without it agree.
-use crate::compare::{compare, compare_two, make_call};
-use crate::recipes::{field, lay, start_of};
-use crate::want::{Cells, MISMATCH, make_cells};
-use crate::{meaning, wrong};
-use test_cells::least;
-
-// The group whose counts nobody reads.
-const UNTOLD: usize = 15;
+use crate::compare::{Call, Mismatch, Tally, compare, compare_two};
+use crate::meaning;
+use crate::recipes::{field, lay, line_of};
+use crate::slow_trace::SlowTrace;
+use crate::texts::Text;
+use crate::want::Cells;
+use crate::wrong::Wrong;
 
 // In the reader.
-fn reader_differs(text: &[u8], room: Cells, plant: usize, memory: &mut [usize]) -> bool {
-    let right = compare(text, make_call(room, plant, wrong::NOTHING), memory);
-    let spoiled = compare(text, make_call(room, plant, plant), memory);
-    (right.row != MISMATCH) & (spoiled.row == MISMATCH)
+fn reader_differs(text: &[u8], right: Call, plant: Wrong, trace: &mut SlowTrace) -> bool {
+    let spoiled = Call {
+        plant: Some(plant),
+        ..right
+    };
+    compare(text, right, trace).is_ok() && compare(text, spoiled, trace) == Err(Mismatch)
 }
 
 // In what the trace means.
-fn meaning_differs(text: &[u8], room: Cells, plant: usize, memory: &mut [usize]) -> bool {
-    let want = compare(text, make_call(room, plant, wrong::NOTHING), memory);
-    let right = meaning::agrees(text, memory, UNTOLD, wrong::NOTHING);
-    let spoiled = meaning::agrees(text, memory, UNTOLD, plant);
-    (want.row == 0) & right & !spoiled
+fn meaning_differs(text: &[u8], right: Call, plant: Wrong, trace: &mut SlowTrace) -> bool {
+    // Counts that nobody reads.
+    let mut tally = Tally::new();
+    let Ok(Ok(_)) = compare(text, right, trace) else {
+        return false;
+    };
+    meaning::agrees(text, trace, &mut tally, None)
+        && !meaning::agrees(text, trace, &mut tally, Some(plant))
 }
 
-fn differs(text: &[u8], room: Cells, plant: usize, memory: &mut [usize]) -> bool {
-    if plant < wrong::EXCHANGED {
-        return reader_differs(text, room, plant, memory);
+fn differs(text: &[u8], right: Call, plant: Wrong, trace: &mut SlowTrace) -> bool {
+    match plant {
+        Wrong::Exchanged | Wrong::Ordered | Wrong::Parallels => {
+            meaning_differs(text, right, plant, trace)
+        }
+        _ => reader_differs(text, right, plant, trace),
     }
-    meaning_differs(text, room, plant, memory)
 }
 
-fn line_differs(text: &mut [u8], table: &[u8], i: usize, memory: &mut [usize]) -> bool {
-    let start = start_of(table, i);
-    let room = make_cells(
-        field(table, start, 1),
-        field(table, start, 2),
-        field(table, start, 3),
-    );
-    let laid = lay(text, table, start, 4);
-    let n = least(laid, text.len());
-    differs(&text[0..n], room, field(table, start, 0), memory)
-}
-
-// The wrong rule, the room of each slice, and a text at which the rule matters.
-fn rule_differs(text: &mut [u8], i: usize, memory: &mut [usize]) -> bool {
-    line_differs(
-        text,
-        b"1 1 1 1 S(r1,w2
+// In each line the wrong rule, the room of each slice, and a text at which the rule matters.
+const PLANTED: &str = "1 1 1 1 S(r1,w2
 1 0 1 1 S(r1,w2)
 2 1 1 1 64*S( P
 3 0 0 0 S(r1,w2
@@ -77,27 +68,43 @@ fn rule_differs(text: &mut [u8], i: usize, memory: &mut [usize]) -> bool {
 23 1 1 1 P(r1,r1)
 24 1 1 1 S(w1,w1)
 24 1 1 1 P(w1,w1)
-",
-        i,
-        memory,
-    )
+";
+
+fn rule_differs(text: &mut Text, i: usize, trace: &mut SlowTrace) -> bool {
+    let line = line_of(PLANTED, i);
+    let number = field(line, 0);
+    let Some(plant) = Wrong::numbered(number) else {
+        return false;
+    };
+    let right = Call {
+        room: Some(Cells::new(field(line, 1), field(line, 2), field(line, 3))),
+        salt: number,
+        plant: None,
+    };
+    lay(text, line, 4);
+    differs(text.bytes(), right, plant, trace)
 }
 
 // The slow reader is given the operands of an operator exchanged: it takes G2 before G1.
-fn exchange_differs(text: &[u8], other: &[u8], memory: &mut [usize]) -> bool {
-    let call = make_call(make_cells(1, 1, 1), 1, wrong::NOTHING);
-    let right = compare(text, call, memory);
-    let spoiled = compare_two(text, other, call, memory);
-    (right.row == 0) & (spoiled.row == MISMATCH)
+fn exchange_differs(text: &str, other: &str, trace: &mut SlowTrace) -> bool {
+    let call = Call {
+        room: Some(Cells::new(1, 1, 1)),
+        salt: 1,
+        plant: None,
+    };
+    let Ok(Ok(_)) = compare(text.as_bytes(), call, trace) else {
+        return false;
+    };
+    compare_two(text.as_bytes(), other.as_bytes(), call, trace) == Err(Mismatch)
 }
 
 // How many there are: those of the table, and the operands of P and of S exchanged.
 pub const PLANTS: usize = 31;
 
-pub fn is_noticed(text: &mut [u8], i: usize, memory: &mut [usize]) -> bool {
+pub fn is_noticed(text: &mut Text, i: usize, trace: &mut SlowTrace) -> bool {
     match i {
-        29 => exchange_differs(b"P(r1,w2)", b"P(w2,r1)", memory),
-        30 => exchange_differs(b"S(r1,w2)", b"S(w2,r1)", memory),
-        _ => rule_differs(text, i, memory),
+        29 => exchange_differs("P(r1,w2)", "P(w2,r1)", trace),
+        30 => exchange_differs("S(r1,w2)", "S(w2,r1)", trace),
+        _ => rule_differs(text, i, trace),
     }
 }

@@ -1,184 +1,183 @@
 // The slow reader's answer: document 02's K4 taken at its word, byte by byte, by what may come next and a stack of the open levels. It shares no code with the
 // fast reader.
-use crate::letters::{CLOSE, COMMA, OPEN, PARALLEL, extend, is_digit, is_leaf, is_operator};
-use crate::memory::LEVELS;
-use crate::wrong;
-use test_cells::{get_byte, get_word, less, more, plus, put_word};
+use crate::letters::{extend, is_leaf};
+use crate::wrong::Wrong;
+use trace::{Refusal, Row};
 
 // What may come next: a plan, the bracket behind an operator, the first digit of a location, one more, or what stands behind a plan.
-const PLAN: usize = 0;
-
-const BRACKET: usize = 1;
-
-const DIGIT: usize = 2;
-
-const NUMBER: usize = 3;
-
-const BEHIND: usize = 4;
+#[derive(Clone, Copy, PartialEq, Eq)]
+enum Due {
+    Plan,
+    Bracket,
+    Digit,
+    Number,
+    Behind,
+}
 
 // The operand in which an open level stands.
-const LEFT: usize = 0;
+#[derive(Clone, Copy, PartialEq, Eq)]
+enum Operand {
+    Left,
+    Right,
+}
 
-const RIGHT: usize = 1;
+// More levels than any rule lets open.
+const LEVELS: usize = 66;
 
-// How far the reading has come: what is due, how many levels are open, the number so far, the leaves and P's met, and the row that is met, or 0.
+// The leaves and P's met, and the row that is met, if any.
 #[derive(Clone, Copy)]
 pub struct Reading {
-    pub due: usize,
-    pub depth: usize,
-    pub value: usize,
     pub leaves: usize,
     pub forks: usize,
-    pub row: usize,
-    pub position: usize,
+    pub refused: Option<Refusal>,
 }
 
-fn refused(mut now: Reading, row: usize) -> Reading {
-    now.row = row;
-    now
+// How far the reading has come: what is due, how many levels are open, the number so far, and the leaves and P's met.
+#[derive(Drop)]
+struct Reader {
+    due: Due,
+    depth: usize,
+    levels: [Operand; LEVELS],
+    value: usize,
+    leaves: usize,
+    forks: usize,
+    plant: Option<Wrong>,
 }
 
-fn stray(now: Reading) -> Reading {
-    refused(now, 17)
-}
-
-// "A plan may nest up to 64 deep"
-fn most_levels(plant: usize) -> usize {
-    if plant == wrong::DEEPER { 65 } else { 64 }
-}
-
-// "18, an S or P that opens level 65"
-fn operator(mut now: Reading, byte: usize, plant: usize) -> Reading {
-    if now.depth == most_levels(plant) {
-        return refused(now, if plant == wrong::ROW { 17 } else { 18 });
+impl Reader {
+    // "A plan may nest up to 64 deep"
+    fn most_levels(&self) -> usize {
+        if self.plant == Some(Wrong::Deeper) {
+            65
+        } else {
+            64
+        }
     }
-    if byte == PARALLEL {
-        now.forks = more(now.forks);
+
+    // "18, an S or P that opens level 65"
+    fn operator(&mut self, byte: u8) -> Result<(), Row> {
+        if self.depth == self.most_levels() {
+            let spoiled = self.plant == Some(Wrong::Row);
+            return Err(if spoiled { Row::NoPlan } else { Row::DeepPlan });
+        }
+        if byte == b'P' {
+            self.forks = self.forks.wrapping_add(1);
+        }
+        self.due = Due::Bracket;
+        Ok(())
     }
-    now.due = BRACKET;
-    now
+
+    // "Leaves are r, w or s (sum) with a location"
+    fn plan(&mut self, byte: u8) -> Result<(), Row> {
+        if matches!(byte, b'S' | b'P') {
+            return self.operator(byte);
+        }
+        if !is_leaf(byte) {
+            return Err(Row::NoPlan);
+        }
+        self.leaves = self.leaves.wrapping_add(1);
+        self.due = Due::Digit;
+        Ok(())
+    }
+
+    fn bracket(&mut self, byte: u8) -> Result<(), Row> {
+        if byte != b'(' || LEVELS <= self.depth {
+            return Err(Row::NoPlan);
+        }
+        self.levels[self.depth] = Operand::Left;
+        self.depth += 1;
+        self.due = Due::Plan;
+        Ok(())
+    }
+
+    // "no leading zeros": no digit follows a zero.
+    fn digit(&mut self, byte: u8) -> Result<(), Row> {
+        if !byte.is_ascii_digit() {
+            return Err(Row::NoPlan);
+        }
+        self.value = extend(0, byte);
+        let whole = self.value == 0 && self.plant != Some(Wrong::Zeros);
+        self.due = if whole { Due::Behind } else { Due::Number };
+        Ok(())
+    }
+
+    // "a location 0 to 1,023"
+    fn longer(&mut self, byte: u8) -> Result<(), Row> {
+        self.value = extend(self.value, byte);
+        let most = if self.plant == Some(Wrong::Location) {
+            1024
+        } else {
+            1023
+        };
+        if most < self.value {
+            return Err(Row::NoPlan);
+        }
+        Ok(())
+    }
+
+    // Behind a plan stands the comma of the innermost open level if that was the left operand, and its bracket if it was the right one.
+    fn behind(&mut self, byte: u8) -> Result<(), Row> {
+        if self.depth == 0 || LEVELS < self.depth {
+            return Err(Row::NoPlan);
+        }
+        let top = self.depth - 1;
+        match (self.levels[top], byte) {
+            (Operand::Left, b',') => {
+                self.levels[top] = Operand::Right;
+                self.due = Due::Plan;
+                Ok(())
+            }
+            (Operand::Right, b')') => {
+                self.depth = top;
+                self.due = Due::Behind;
+                Ok(())
+            }
+            _ => Err(Row::NoPlan),
+        }
+    }
+
+    fn step(&mut self, byte: u8) -> Result<(), Row> {
+        match self.due {
+            Due::Plan => self.plan(byte),
+            Due::Bracket => self.bracket(byte),
+            Due::Digit => self.digit(byte),
+            Due::Number if byte.is_ascii_digit() => self.longer(byte),
+            Due::Number | Due::Behind => self.behind(byte),
+        }
+    }
+
+    // "or the plan's length if it breaks off"
+    fn is_whole(&self) -> bool {
+        self.depth == 0 && matches!(self.due, Due::Number | Due::Behind)
+    }
+
+    fn reading(&self, refused: Option<Refusal>) -> Reading {
+        Reading {
+            leaves: self.leaves,
+            forks: self.forks,
+            refused,
+        }
+    }
 }
 
-// "Leaves are r, w or s (sum) with a location"
-fn plan(mut now: Reading, byte: usize, plant: usize) -> Reading {
-    if is_operator(byte) {
-        return operator(now, byte, plant);
-    }
-    if !is_leaf(byte) {
-        return stray(now);
-    }
-    now.leaves = more(now.leaves);
-    now.due = DIGIT;
-    now
-}
-
-fn bracket(memory: &mut [usize], mut now: Reading, byte: usize) -> Reading {
-    if byte != OPEN {
-        return stray(now);
-    }
-    put_word(memory, plus(LEVELS, now.depth), LEFT);
-    now.depth = more(now.depth);
-    now.due = PLAN;
-    now
-}
-
-// "no leading zeros": no digit follows a zero.
-fn digit(mut now: Reading, byte: usize, plant: usize) -> Reading {
-    if !is_digit(byte) {
-        return stray(now);
-    }
-    now.value = extend(0, byte);
-    now.due = if (now.value == 0) & (plant != wrong::ZEROS) {
-        BEHIND
-    } else {
-        NUMBER
-    };
-    now
-}
-
-// "a location 0 to 1,023"
-fn longer(mut now: Reading, byte: usize, plant: usize) -> Reading {
-    now.value = extend(now.value, byte);
-    let most = if plant == wrong::LOCATION { 1024 } else { 1023 };
-    if most < now.value {
-        return stray(now);
-    }
-    now
-}
-
-// Behind a plan stands the comma of the innermost open level if that was the left operand, and its bracket if it was the right one.
-fn behind(memory: &mut [usize], mut now: Reading, byte: usize) -> Reading {
-    let top = plus(LEVELS, less(now.depth));
-    let left = get_word(memory, top) == LEFT;
-    let due = if left { COMMA } else { CLOSE };
-    if (now.depth == 0) | (byte != due) {
-        return stray(now);
-    }
-    put_word(memory, top, RIGHT);
-    now.depth = if left { now.depth } else { less(now.depth) };
-    now.due = if left { PLAN } else { BEHIND };
-    now
-}
-
-fn number(memory: &mut [usize], now: Reading, byte: usize, plant: usize) -> Reading {
-    if is_digit(byte) {
-        return longer(now, byte, plant);
-    }
-    behind(memory, now, byte)
-}
-
-fn step(memory: &mut [usize], now: Reading, byte: usize, plant: usize) -> Reading {
-    let due = now.due;
-    match due {
-        0 => plan(now, byte, plant),
-        1 => bracket(memory, now, byte),
-        2 => digit(now, byte, plant),
-        3 => number(memory, now, byte, plant),
-        _ => behind(memory, now, byte),
-    }
-}
-
-fn start() -> Reading {
-    Reading {
-        due: PLAN,
+// "17, first byte that can't continue a plan, .. 18, .. of these two the first met." Once a row is met nothing is read any more.
+pub fn read(text: &[u8], plant: Option<Wrong>) -> Reading {
+    let mut reader = Reader {
+        due: Due::Plan,
         depth: 0,
+        levels: [Operand::Left; LEVELS],
         value: 0,
         leaves: 0,
         forks: 0,
-        row: 0,
-        position: 0,
-    }
-}
-
-// "or the plan's length if it breaks off"
-fn ended(now: Reading) -> Reading {
-    if (now.row != 0) | ((now.depth == 0) & (NUMBER <= now.due)) {
-        return now;
-    }
-    stray(now)
-}
-
-// Once a row is met nothing is read any more.
-fn pass(memory: &mut [usize], before: Reading, byte: usize, plant: usize) -> Reading {
-    if before.row != 0 {
-        return before;
-    }
-    let mut now = step(memory, before, byte, plant);
-    now.position = if now.row == 0 {
-        more(before.position)
-    } else {
-        before.position
+        plant,
     };
-    now
-}
-
-// "17, first byte that can't continue a plan, .. 18, .. of these two the first met."
-pub fn read(text: &[u8], memory: &mut [usize], plant: usize) -> Reading {
-    let mut now = start();
-    let mut at = 0;
-    while at < text.len() {
-        now = pass(memory, now, get_byte(text, at), plant);
-        at += 1;
+    for (at, byte) in text.iter().enumerate() {
+        if let Err(row) = reader.step(*byte) {
+            return reader.reading(Some(row.at(at)));
+        }
     }
-    ended(now)
+    if reader.is_whole() {
+        return reader.reading(None);
+    }
+    reader.reading(Some(Row::NoPlan.at(text.len())))
 }

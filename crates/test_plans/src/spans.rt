@@ -1,12 +1,11 @@
 // Which operator a byte of a plan belongs to, by brackets alone.
-use crate::letters::{CLOSE, COMMA, OPEN};
-use test_cells::{get_byte, less, more};
+use crate::letters::byte_at;
 
 // How many brackets are open behind a byte.
-fn open_after(open: usize, byte: usize) -> usize {
+fn open_after(open: usize, byte: u8) -> usize {
     match byte {
-        40 => more(open),
-        41 => less(open),
+        b'(' => open.wrapping_add(1),
+        b')' => open.wrapping_sub(1),
         _ => open,
     }
 }
@@ -14,31 +13,27 @@ fn open_after(open: usize, byte: usize) -> usize {
 // The place of the comma of the operator whose letter stands at a place.
 pub fn comma_of(text: &[u8], letter: usize) -> usize {
     let mut open = 0;
-    let mut at = letter;
-    while at < text.len() {
-        let byte = get_byte(text, at);
+    for at in letter..text.len() {
+        let byte = text[at];
         open = open_after(open, byte);
-        if (open == 1) & (byte == COMMA) {
+        if open == 1 && byte == b',' {
             return at;
         }
-        at += 1;
     }
-    at
+    text.len()
 }
 
 // How many brackets that were opened before a place are closed from there up to another.
 pub fn closed_between(text: &[u8], from: usize, to: usize) -> usize {
     let mut open = 0;
-    let mut closed = 0;
-    let mut at = from;
-    while at < to {
-        let byte = get_byte(text, at);
-        if (open == 0) & (byte == CLOSE) {
-            closed = more(closed);
+    let mut closed: usize = 0;
+    for at in from..to {
+        let byte = byte_at(text, at);
+        if open == 0 && byte == b')' {
+            closed = closed.wrapping_add(1);
         } else {
             open = open_after(open, byte);
         }
-        at += 1;
     }
     closed
 }
@@ -46,23 +41,13 @@ pub fn closed_between(text: &[u8], from: usize, to: usize) -> usize {
 // The place of the letter of the operator around a place that has so many others around it inside.
 pub fn around(text: &[u8], place: usize, inside: usize) -> usize {
     let mut closed = inside;
-    let mut at = place;
-    while 0 < at {
-        at -= 1;
-        let byte = get_byte(text, at);
-        if (closed == 0) & (byte == OPEN) {
-            return less(at);
+    for at in (0..place).rev() {
+        match byte_at(text, at) {
+            b'(' if closed == 0 => return at.wrapping_sub(1),
+            b'(' => closed = closed.wrapping_sub(1),
+            b')' => closed = closed.wrapping_add(1),
+            _ => {}
         }
-        closed = closed_before(closed, byte);
     }
-    at
-}
-
-// How many brackets are closed behind a byte and were opened before it.
-fn closed_before(closed: usize, byte: usize) -> usize {
-    match byte {
-        40 => less(closed),
-        41 => more(closed),
-        _ => closed,
-    }
+    0
 }

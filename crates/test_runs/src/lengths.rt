@@ -1,42 +1,32 @@
 // Rows 1 to 4 of document 01's table, and the largest traces: reads by task 0 in slices of many lengths.
-use crate::tables::go_through;
 use test_calls::lengths::{lengths, read_runs, told};
-use test_calls::{REFUSED, YES, asking, judging, make_reply, same_reply};
-use test_cells::plus;
+use test_calls::{Reply, asking, judging};
 use test_compare::compare;
-use test_outcome::Outcome;
-use test_slow::Sizes;
+use test_outcome::{Outcome, try_rows};
+use test_slow::Memory;
 
-// The case of the ordering call's answer where the judge's is this one. "It has no order buffers, so refusal 4 is absent": past rows 1 to 3 the read at
-// position 0 reaches itself, if it is there.
-fn ordering_case(case: usize, n: usize) -> usize {
-    if (REFUSED < case) & (case < plus(REFUSED, 4)) {
-        return case;
+// The ordering call's answer where the judge's is this one. "It has no order buffers, so refusal 4 is absent": past rows 1 to 3 the read at position 0 reaches
+// itself, if it is there.
+fn ordering_told(judged: Reply, n: usize) -> Reply {
+    match judged.row() {
+        Some(1..=3) => judged,
+        _ if n == 0 => Reply::refused(13, 0),
+        _ => true.into(),
     }
-    if n == 0 {
-        return plus(REFUSED, 13);
-    }
-    YES
 }
 
-fn asked(sizes: Sizes, case: usize, events: &[u16], run: usize, memory: &mut [usize]) -> bool {
-    let answer = compare(events, asking(sizes, 0, 0, run), memory);
-    let want = make_reply(ordering_case(case, sizes.kinds), 0, 0, 0);
-    same_reply(answer, want)
-}
-
-pub fn run_agrees(cells: &[u16], run: usize, events: &[u16], memory: &mut [usize]) -> bool {
+fn run_agrees(cells: &[u16], run: usize, events: &[u16], memory: &mut Memory) -> bool {
     let sizes = lengths(cells, run);
-    let want = told(cells, run);
+    let want = told(cells, run, Reply::clean(0));
     let answer = compare(events, judging(sizes, run), memory);
-    let also = asked(sizes, want.case, events, run, memory);
-    same_reply(answer, want) & also
+    let asked = compare(events, asking(sizes, 0, 0, run), memory);
+    (answer == Ok(want)) & (asked == Ok(ordering_told(want, sizes.kinds)))
 }
 
 // Every event is a read of location 0 by task 0.
-pub fn try_all(memory: &mut [usize]) -> Outcome {
+pub fn try_all(memory: &mut Memory) -> Outcome {
     let mut cells = [0u16; 170];
     let rows = read_runs(&mut cells);
     let reads = [0u16; 3];
-    go_through(&cells, rows, false, &reads, memory)
+    try_rows(rows, |run| run_agrees(&cells, run, &reads, memory))
 }

@@ -1,120 +1,122 @@
 // Many traces at random: both judges answer each, and both ordering calls several pairs of its positions.
 use test_calls::drawn::{asking_of, sizes_of};
-use test_calls::{MISMATCH, RACE, REFUSED, Reply, judging};
-use test_cells::{least, more, plus};
+use test_calls::{Case, Mismatch, Reply, judging};
 use test_compare::compare;
+use test_outcome::{Fault, count_at, count_more};
 use test_samples::draws::{next, seed_of, stream};
-use test_samples::events::{Event, SUM, event_at};
+use test_samples::events::{Event, Kind, event_at};
 use test_samples::make;
-use test_slow::Sizes;
+use test_slow::{Memory, Sizes};
 
 pub const TRACES: usize = 10000;
 
 pub const PAIRS: usize = 4;
 
-// Counts of answers: the judge's cases from cell 0 on, the ordering call's from ORDERING on; then all the events, and the sums among them; from LINKS on the
-// clean traces and races by the number of their links; then the races by their kinds: of a read with a later read, write and sum, of a write, and of a sum; then
-// the refusals by row 12 by what the halt names: 0, itself, another task, no task.
-pub const ORDERING: usize = 32;
+// Refusals by the numbers of their rows.
+pub const ROWS: usize = 14;
 
-pub const EVENTS: usize = 64;
-
-pub const SUMS: usize = 65;
-
-pub const LINKS: usize = 66;
-
-pub const READ_RACES: usize = 77;
-
-pub const WRITE_RACES: usize = 80;
-
-pub const SUM_RACES: usize = 83;
-
-pub const HALTS: usize = 86;
-
-pub const COUNTS: usize = 90;
-
-// The counts so far, and whether all answers agreed.
+// What came of the calls so far. The races are counted by the kinds of their accesses too, of a read, a write and a sum with a later one; and the refusals by row
+// 12 by what the halt names: 0, itself, another task, no task.
 #[derive(Clone, Copy)]
-pub struct Tally {
-    pub counts: [usize; COUNTS],
-    pub agreed: bool,
+pub struct Counts {
+    pub events: usize,
+    pub sums: usize,
+    pub clean: usize,
+    pub races: usize,
+    pub races_of_read: [usize; 3],
+    pub races_of_write: [usize; 3],
+    pub races_of_sum: [usize; 3],
+    // Of the clean traces and the races.
+    pub links: [usize; 11],
+    pub refused: [usize; ROWS],
+    pub halts: [usize; 4],
+    // Of the ordering call.
+    pub yes: usize,
+    pub no: usize,
+    pub not_ordered: [usize; ROWS],
 }
 
-pub fn count_at(counts: [usize; COUNTS], i: usize) -> usize {
-    if i < COUNTS { counts[i] } else { 0 }
-}
-
-fn count(mut counts: [usize; COUNTS], i: usize, more: usize) -> [usize; COUNTS] {
-    if i < COUNTS {
-        counts[i] = plus(counts[i], more);
-    }
-    counts
-}
-
-fn count_reply(tally: Tally, from: usize, reply: Reply) -> Tally {
-    let counts = tally.counts;
-    if reply.case == MISMATCH {
-        return Tally {
-            counts,
-            agreed: false,
-        };
-    }
-    Tally {
-        counts: count(counts, plus(from, reply.case), 1),
-        agreed: tally.agreed,
+// The place of a kind of access among the three.
+fn place_of(event: Event) -> usize {
+    match event.kind {
+        Ok(Kind::Read) => 0,
+        Ok(Kind::Write) => 1,
+        _ => 2,
     }
 }
 
-// Counts a judge's answer, and its links if it tells them.
-fn count_judged(before: Tally, reply: Reply) -> Tally {
-    let tally = count_reply(before, 0, reply);
-    let counts = tally.counts;
-    let one = if reply.case < REFUSED { 1 } else { 0 };
-    Tally {
-        counts: count(counts, plus(LINKS, reply.links), one),
-        agreed: tally.agreed,
-    }
-}
-
-// The cell of a race of accesses of these kinds.
-fn cell_of_race(one: usize, other: usize) -> usize {
-    let place = if other == SUM { 2 } else { other };
-    match one {
-        0 => plus(READ_RACES, place),
-        1 => plus(WRITE_RACES, place),
-        _ => plus(SUM_RACES, place),
-    }
-}
-
-// The cell of a halt that row 12 refuses.
-fn cell_of_halt(event: Event) -> usize {
+// The place of what a halt names that row 12 refuses.
+fn place_of_halt(event: Event) -> usize {
     if event.operand == 0 {
-        return HALTS;
+        return 0;
     }
     if event.operand == event.task {
-        return plus(HALTS, 1);
+        return 1;
     }
-    plus(HALTS, if event.operand < 1024 { 2 } else { 3 })
+    if event.operand < 1024 { 2 } else { 3 }
 }
 
-// The cell of an answer by the events that it names, past all cells where it has none.
-fn cell_of(events: &[u16], reply: Reply) -> usize {
-    let one = event_at(events, reply.a);
-    if reply.case == RACE {
-        return cell_of_race(one.kind, event_at(events, reply.b).kind);
+impl Counts {
+    fn new() -> Counts {
+        Counts {
+            events: 0,
+            sums: 0,
+            clean: 0,
+            races: 0,
+            races_of_read: [0; 3],
+            races_of_write: [0; 3],
+            races_of_sum: [0; 3],
+            links: [0; 11],
+            refused: [0; ROWS],
+            halts: [0; 4],
+            yes: 0,
+            no: 0,
+            not_ordered: [0; ROWS],
+        }
     }
-    if reply.case == plus(REFUSED, 12) {
-        return cell_of_halt(one);
-    }
-    COUNTS
-}
 
-// Counts a race by the kinds of its accesses, and a refusal by row 12 by what the halt names.
-fn count_by_events(tally: Tally, events: &[u16], reply: Reply) -> Tally {
-    let counts = tally.counts;
-    Tally {
-        counts: count(counts, cell_of(events, reply), 1),
-        agreed: tally.agreed,
+    // Counts a race by the kinds of its accesses.
+    fn count_race(&mut self, one: Event, other: Event) {
+        count_more(&mut self.races, 1);
+        let place = place_of(other);
+        match one.kind {
+            Ok(Kind::Read) => count_at(&mut self.races_of_read, place),
+            Ok(Kind::Write) => count_at(&mut self.races_of_write, place),
+            _ => count_at(&mut self.races_of_sum, place),
+        }
+    }
+
+    // Counts a refusal of the judge, at this event.
+    fn count_refusal(&mut self, row: usize, event: Event) {
+        count_at(&mut self.refused, row);
+        if row == 12 {
+            count_at(&mut self.halts, place_of_halt(event));
+        }
+    }
+
+    // Counts a judge's answer, and its links if it tells them.
+    fn count_judged(&mut self, events: &[u16], reply: Reply) {
+        match reply.case {
+            Case::Clean => count_more(&mut self.clean, 1),
+            Case::Race => self.count_race(event_at(events, reply.a), event_at(events, reply.b)),
+            _ => return self.count_refusal(reply.a, event_at(events, reply.b)),
+        }
+        count_at(&mut self.links, reply.links);
+    }
+
+    fn count_ordered(&mut self, reply: Reply) {
+        match reply.case {
+            Case::Yes => count_more(&mut self.yes, 1),
+            Case::No => count_more(&mut self.no, 1),
+            _ => count_at(&mut self.not_ordered, reply.a),
+        }
+    }
+
+    // Counts the n events of a trace.
+    fn count_events(&mut self, events: &[u16], n: usize) {
+        let sums = (0..n).filter(|p| event_at(events, *p).is(Kind::Sum));
+        count_more(&mut self.events, n);
+        count_more(&mut self.sums, sums.count());
     }
 }
 
@@ -123,98 +125,35 @@ fn ask_all(
     events: &[u16],
     sizes: Sizes,
     seed: usize,
-    before: Tally,
-    memory: &mut [usize],
-) -> Tally {
-    let mut tally = before;
+    counts: &mut Counts,
+    memory: &mut Memory,
+) -> Result<(), Mismatch> {
     let mut draw = seed;
-    let mut i = 0;
-    while i < PAIRS {
+    for _ in 0..PAIRS {
         draw = next(next(draw));
-        let reply = compare(events, asking_of(sizes, draw), memory);
-        tally = count_reply(tally, ORDERING, reply);
-        i += 1;
+        let reply = compare(events, asking_of(sizes, draw), memory)?;
+        counts.count_ordered(reply);
     }
-    tally
-}
-
-fn judge_and_ask(
-    events: &[u16],
-    sizes: Sizes,
-    seed: usize,
-    tally: Tally,
-    memory: &mut [usize],
-) -> Tally {
-    let reply = compare(events, judging(sizes, seed), memory);
-    ask_all(
-        events,
-        sizes,
-        stream(seed, 6),
-        count_by_events(count_judged(tally, reply), events, reply),
-        memory,
-    )
-}
-
-fn sums_of(events: &[u16], n: usize) -> usize {
-    let mut sums = 0;
-    let mut p = 0;
-    while p < n {
-        if event_at(events, p).kind == SUM {
-            sums = more(sums);
-        }
-        p += 1;
-    }
-    sums
-}
-
-// Counts the n events of a trace.
-fn count_events(tally: Tally, events: &[u16], n: usize) -> Tally {
-    let counts = tally.counts;
-    Tally {
-        counts: count(count(counts, EVENTS, n), SUMS, sums_of(events, n)),
-        agreed: tally.agreed,
-    }
+    Ok(())
 }
 
 // Makes the trace of a seed, and compares.
-fn try_one(seed: usize, tally: Tally, memory: &mut [usize]) -> Tally {
-    let mut events = [0u16; 12300];
-    let n = make(&mut events, seed);
-    let cut = least(plus(n, plus(n, n)), 12300);
-    let counted = count_events(tally, &events, n);
-    judge_and_ask(
-        &events[0..cut],
-        sizes_of(n, stream(seed, 5)),
-        seed,
-        counted,
-        memory,
-    )
+fn try_one(seed: usize, counts: &mut Counts, memory: &mut Memory) -> Result<(), Mismatch> {
+    let mut cells = [0u16; 12300];
+    let n = make(&mut cells, seed);
+    let events = &cells[..n.wrapping_mul(3).min(12300)];
+    let sizes = sizes_of(n, stream(seed, 5));
+    counts.count_events(events, n);
+    let reply = compare(events, judging(sizes, seed), memory)?;
+    counts.count_judged(events, reply);
+    ask_all(events, sizes, stream(seed, 6), counts, memory)
 }
 
-// How many traces agreed, one after the other, and the counts.
-#[derive(Clone, Copy)]
-pub struct Trials {
-    pub agreed: usize,
-    pub counts: [usize; COUNTS],
-}
-
-fn tried(agreed: usize, tally: Tally) -> Trials {
-    let counts = tally.counts;
-    Trials { agreed, counts }
-}
-
-pub fn try_all(memory: &mut [usize]) -> Trials {
-    let mut tally = Tally {
-        counts: [0; COUNTS],
-        agreed: true,
-    };
-    let mut i = 0;
-    while i < TRACES {
-        tally = try_one(seed_of(i), tally, memory);
-        if !tally.agreed {
-            return tried(i, tally);
-        }
-        i += 1;
+// What came of all traces, if all answers agreed.
+pub fn try_all(memory: &mut Memory) -> Result<Counts, Fault> {
+    let mut counts = Counts::new();
+    for number in 0..TRACES {
+        try_one(seed_of(number), &mut counts, memory).map_err(|_| Fault { number })?;
     }
-    tried(i, tally)
+    Ok(counts)
 }

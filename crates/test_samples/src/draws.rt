@@ -1,5 +1,7 @@
 // Numbers at random, from a seed.
 
+ghost use Rattle.std.specs.Prelude.{◌<◌};
+
 // The next state of a xorshift generator.
 pub fn next(seed: usize) -> usize {
     let a = seed ^ (seed << 13);
@@ -8,7 +10,9 @@ pub fn next(seed: usize) -> usize {
 }
 
 // A number below n, or 0 where there is none.
-pub fn below(seed: usize, n: usize) -> usize {
+pub fn below(seed: usize, n: usize) -> usize
+    ensures { 0 < n → result < n }
+{
     if n == 0 {
         return 0;
     }

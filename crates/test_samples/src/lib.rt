@@ -9,7 +9,7 @@ mod shapes;
 mod tree;
 
 use draws::{below, next, stream};
-use test_cells::{plus, put};
+use shapes::shape_of;
 
 // A number with no divisor in common with 1,023 = 3 * 11 * 31.
 fn stride(seed: usize) -> usize {
@@ -26,43 +26,35 @@ fn stride(seed: usize) -> usize {
 }
 
 // The tasks' numbers: 0, then 1 to 1,023 in an order of its own for each seed.
-fn name_all(table: &mut [u16], seed: usize) {
+fn names_of(seed: usize) -> [u16; 1024] {
+    let mut names = [0; 1024];
     let mut name = below(seed, 1023);
-    let mut i = 1;
-    while i < 1024 {
-        put(table, i, name % 1023 + 1);
-        name = plus(name % 1023, stride(seed));
-        i += 1;
+    for cell in names.iter_mut().skip(1) {
+        *cell = (name % 1023) as u16 + 1;
+        name = (name % 1023).wrapping_add(stride(seed));
     }
+    names
 }
 
 // The tree of so many tasks, each with the number of its place, from some number of events on. Answers the number of events.
 pub fn make_tree(events: &mut [u16], tasks: usize, from: usize) -> usize {
-    let mut table = [0u16; 1024];
-    name_all(&mut table, 0);
-    tree::sprout_all(events, &table, tasks, from)
+    tree::sprout_all(events, &names_of(0), tasks, from)
 }
 
-fn tree_or_grown(events: &mut [u16], table: &mut [u16], seed: usize) -> usize {
-    name_all(table, seed);
+fn tree_or_grown(events: &mut [u16], seed: usize) -> usize {
+    let names = names_of(seed);
     if below(seed, 40) == 0 {
-        return tree::tree(events, table, stream(seed, 3));
+        return tree::tree(events, &names, stream(seed, 3));
     }
-    let shape = shapes::shape_of(stream(seed, 1));
-    growth::grown(events, table, shape, stream(seed, 2))
+    growth::grown(events, &names, shape_of(stream(seed, 1)), stream(seed, 2))
 }
 
-// One trace in three is damaged.
-fn spoil(events: &mut [u16], n: usize, seed: usize) {
-    if below(seed, 3) == 0 {
-        damage::spoil(events, n, next(seed));
-    }
-}
-
-// Makes the trace of a seed, of no more events than the slow judge takes. Answers their number.
+// Makes the trace of a seed, of no more events than the slow judge takes. One trace in three is damaged. Answers the number of events.
 pub fn make(events: &mut [u16], seed: usize) -> usize {
-    let mut table = [0u16; 3072];
-    let n = tree_or_grown(events, &mut table, seed);
-    spoil(events, n, stream(seed, 4));
+    let n = tree_or_grown(events, seed);
+    let damage = stream(seed, 4);
+    if below(damage, 3) == 0 {
+        damage::spoil(events, n, next(damage));
+    }
     n
 }

@@ -1,6 +1,5 @@
 // The shapes that traces at random have.
 use crate::draws::{below, next};
-use test_cells::more;
 
 #[derive(Clone, Copy)]
 pub struct Shape {
@@ -16,83 +15,62 @@ pub struct Shape {
     pub locations: usize,
     pub writes: usize,
     pub sums: usize,
-    // 0: accesses at random. Else they race with none, but for one in so many.
-    pub care: usize,
+    // Accesses race with none, but for one in so many. None: accesses at random.
+    pub care: Option<usize>,
 }
+
+// ---- the ways in which tasks nest: what else a shape has is drawn for each
 
 // Deep nesting.
-fn deep(count: usize, locations: usize, care: usize) -> Shape {
-    Shape {
-        count,
-        forks: 6,
-        halts: 8,
-        joins: 10,
-        hold: 2000,
-        locations,
-        writes: 4,
-        sums: 0,
-        care,
-    }
-}
+const DEEP: Shape = Shape {
+    count: 0,
+    forks: 6,
+    halts: 8,
+    joins: 10,
+    hold: 2000,
+    locations: 0,
+    writes: 4,
+    sums: 0,
+    care: None,
+};
 
 // Shallow nesting: once 12 halted tasks stand in the line, the running task joins them all, most of which it did not fork.
-fn wide(count: usize, locations: usize, care: usize) -> Shape {
-    Shape {
-        count,
-        forks: 4,
-        halts: 9,
-        joins: 9,
-        hold: 12,
-        locations,
-        writes: 5,
-        sums: 0,
-        care,
-    }
-}
+const WIDE: Shape = Shape {
+    forks: 4,
+    halts: 9,
+    joins: 9,
+    hold: 12,
+    writes: 5,
+    ..DEEP
+};
 
 // As many joins as forks and halts: often by a task that is not the parent.
-fn pipeline(count: usize, locations: usize, care: usize) -> Shape {
-    Shape {
-        count,
-        forks: 4,
-        halts: 8,
-        joins: 12,
-        hold: 2000,
-        locations,
-        writes: 6,
-        sums: 0,
-        care,
-    }
-}
+const PIPELINE: Shape = Shape {
+    forks: 4,
+    halts: 8,
+    joins: 12,
+    writes: 6,
+    ..DEEP
+};
 
 // Few tasks and many accesses.
-fn busy(count: usize, locations: usize, care: usize) -> Shape {
-    Shape {
-        count,
-        forks: 1,
-        halts: 2,
-        joins: 3,
-        hold: 6,
-        locations,
-        writes: 5,
-        sums: 0,
-        care,
-    }
-}
+const BUSY: Shape = Shape {
+    forks: 1,
+    halts: 2,
+    joins: 3,
+    hold: 6,
+    writes: 5,
+    ..DEEP
+};
 
 // Most traces are short, and one in 64 has as many events as the slow judge takes.
 fn count_of(seed: usize) -> usize {
-    let r = below(seed, 64);
-    if r == 0 {
-        return test_slow::EVENTS;
+    match below(seed, 64) {
+        0 => test_slow::EVENTS,
+        1..=7 => 600,
+        8..=31 => 150,
+        _ => below(next(seed), 60).wrapping_add(1),
     }
-    if r < 8 {
-        return 600;
-    }
-    if r < 32 {
-        return 150;
-    }
-    more(below(next(seed), 60))
 }
 
 fn locations_of(seed: usize) -> usize {
@@ -104,38 +82,37 @@ fn locations_of(seed: usize) -> usize {
     }
 }
 
-fn care_of(seed: usize) -> usize {
+fn care_of(seed: usize) -> Option<usize> {
     match below(seed, 8) {
-        0 | 1 | 2 | 3 => 0,
-        4 => 20,
-        5 => 200,
-        _ => 1000000,
+        0..=3 => None,
+        4 => Some(20),
+        5 => Some(200),
+        _ => Some(1000000),
     }
 }
 
-fn nesting_of(count: usize, locations: usize, care: usize, seed: usize) -> Shape {
+fn nesting_of(seed: usize) -> Shape {
     match below(seed, 4) {
-        0 => deep(count, locations, care),
-        1 => wide(count, locations, care),
-        2 => pipeline(count, locations, care),
-        _ => busy(count, locations, care),
+        0 => DEEP,
+        1 => WIDE,
+        2 => PIPELINE,
+        _ => BUSY,
     }
-}
-
-fn with_kinds(mut shape: Shape, writes: usize, sums: usize) -> Shape {
-    shape.writes = writes;
-    shape.sums = sums;
-    shape
 }
 
 // Half of the traces have no sums, a quarter has all three kinds of access. In the others many sums go unordered before one is held against a read, or
 // against a write.
 fn with_sums(shape: Shape, seed: usize) -> Shape {
-    match below(seed, 8) {
-        0 | 1 | 2 | 3 => shape,
-        4 | 5 => with_kinds(shape, shape.writes, 5),
-        6 => with_kinds(shape, 0, 15),
-        _ => with_kinds(shape, 1, 15),
+    let (writes, sums) = match below(seed, 8) {
+        0..=3 => (shape.writes, 0),
+        4 | 5 => (shape.writes, 5),
+        6 => (0, 15),
+        _ => (1, 15),
+    };
+    Shape {
+        writes,
+        sums,
+        ..shape
     }
 }
 
@@ -143,6 +120,11 @@ pub fn shape_of(seed: usize) -> Shape {
     let a = next(seed);
     let b = next(a);
     let c = next(b);
-    let shape = nesting_of(count_of(seed), locations_of(a), care_of(b), c);
+    let shape = Shape {
+        count: count_of(seed),
+        locations: locations_of(a),
+        care: care_of(b),
+        ..nesting_of(c)
+    };
     with_sums(shape, next(c))
 }

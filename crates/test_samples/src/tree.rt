@@ -1,79 +1,68 @@
 // A tree of tasks whose joins make the longest chains of links in a table of joins.
 use crate::draws::{below, seed_of};
-use crate::events::{FORK, HALT, JOIN, READ, WRITE, make_event, put_event};
-use test_cells::{get, least, less, more, plus};
+use crate::events::{Event, Kind, put_event};
+use test_cells::get;
 
 // The place of the task that forks the one at a place: that without its lowest bit.
 fn parent(child: usize) -> usize {
-    child & less(child)
+    child & child.wrapping_sub(1)
 }
 
 // A task halts, and its parent, which resumes, joins it.
-fn give_back(events: &mut [u16], table: &[u16], child: usize, n: usize) {
-    let name = get(table, child);
-    let resumes = get(table, parent(child));
-    put_event(events, n, make_event(name, HALT, resumes));
-    put_event(events, more(n), make_event(resumes, JOIN, name));
+fn give_back(events: &mut [u16], names: &[u16], child: usize, n: usize) {
+    let name = get(names, child);
+    let resumes = get(names, parent(child));
+    put_event(events, n, Event::new(name, Kind::Halt, resumes));
+    put_event(
+        events,
+        n.wrapping_add(1),
+        Event::new(resumes, Kind::Join, name),
+    );
 }
 
 // Every task whose tasks below it are all done is given back. Answers the number of events.
-fn fold(events: &mut [u16], table: &[u16], task: usize, from: usize) -> usize {
+fn fold(events: &mut [u16], names: &[u16], task: usize, from: usize) -> usize {
     let mut n = from;
     let mut child = task;
-    let mut rest = task;
-    while rest % 2 == 1 {
-        give_back(events, table, child, n);
-        n = plus(n, 2);
+    for _ in 0..task.trailing_ones() {
+        give_back(events, names, child, n);
+        n = n.wrapping_add(2);
         child = parent(child);
-        rest = rest / 2;
     }
     n
 }
 
 // A task is forked, and writes its own location.
-fn sprout(events: &mut [u16], table: &[u16], task: usize, n: usize) -> usize {
-    let name = get(table, task);
-    put_event(events, n, make_event(get(table, parent(task)), FORK, name));
-    put_event(events, more(n), make_event(name, WRITE, name));
-    fold(events, table, task, plus(n, 2))
+fn sprout(events: &mut [u16], names: &[u16], task: usize, n: usize) -> usize {
+    let name = get(names, task);
+    let forks = get(names, parent(task));
+    put_event(events, n, Event::new(forks, Kind::Fork, name));
+    put_event(
+        events,
+        n.wrapping_add(1),
+        Event::new(name, Kind::Write, name),
+    );
+    fold(events, names, task, n.wrapping_add(2))
 }
 
 // The events of the tree, from some number of events on. A power of two of tasks makes a chain of as many links as its exponent: each join is of trees of one
 // size. Answers the number of events.
-pub fn sprout_all(events: &mut [u16], table: &[u16], tasks: usize, from: usize) -> usize {
+pub fn sprout_all(events: &mut [u16], names: &[u16], tasks: usize, from: usize) -> usize {
     let mut n = from;
-    let mut task = 1;
-    while task < tasks {
-        n = sprout(events, table, task, n);
-        task += 1;
+    for task in 1..tasks {
+        n = sprout(events, names, task, n);
     }
     n
 }
 
-// Task 0 reads locations of the tree's tasks, up to some number of events.
-fn look_back(events: &mut [u16], table: &[u16], tasks: usize, from: usize, to: usize) -> usize {
-    let mut n = from;
-    while n < to {
-        put_event(
-            events,
-            n,
-            make_event(0, READ, get(table, below(seed_of(n), tasks))),
-        );
-        n += 1;
+// 2 to 1,024 tasks. Then task 0 reads locations of the tree's tasks, up to 100 times. Answers the number of events.
+pub fn tree(events: &mut [u16], names: &[u16], seed: usize) -> usize {
+    let tasks = 1usize << (1 + below(seed, 10) % 10);
+    let n = sprout_all(events, names, tasks, 0);
+    let end = n.wrapping_add(100).min(test_slow::EVENTS);
+    for p in n..end {
+        let location = get(names, below(seed_of(p), tasks));
+        put_event(events, p, Event::new(0, Kind::Read, location));
     }
-    n
-}
-
-// 2 to 1,024 tasks. Answers the number of events.
-pub fn tree(events: &mut [u16], table: &[u16], seed: usize) -> usize {
-    let one: usize = 1;
-    let tasks = one << (1 + below(seed, 10) % 10);
-    let n = sprout_all(events, table, tasks, 0);
-    look_back(
-        events,
-        table,
-        tasks,
-        n,
-        least(plus(n, 100), test_slow::EVENTS),
-    )
+    n.max(end)
 }

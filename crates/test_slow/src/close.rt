@@ -1,68 +1,64 @@
 // The slow list of close pairs: document 02's K7 taken at its word, on the conflicts and the paths of the slow judge. It can go wrong ways, on purpose: a comparison
 // with the fast one must notice each of them.
-use crate::events::{Event, READ, SUM, event_at};
-use crate::memory::ORDERS;
-use crate::paths::reaches;
+use crate::events::{Event, Kind, Trace};
+use crate::paths::Paths;
 use crate::races::conflict;
-use test_cells::{least, minus, more, plus, put_word};
+use crate::{Memory, ROOM};
+use test_cells::put;
 
-// The most pairs that are kept. The earlier positions stand in the memory where the slow judge has its orders, and behind them the later ones, each with a cell
-// more for those that find no room.
-pub const ROOM: usize = 83301;
+// ---- ways
 
-pub const EARLIER: usize = ORDERS;
+#[derive(Clone, Copy, PartialEq, Eq)]
+pub enum Way {
+    Right,
+    // At most 255 apart; 257; any number.
+    Narrow,
+    Broad,
+    Far,
+    // Two reads conflict; two sums do; a sum and a later read do not; a path between two makes no difference.
+    Reads,
+    Sums,
+    SumRead,
+    Ordered,
+    // In order of s and then of t; s and t are exchanged.
+    ByEarlier,
+    Exchanged,
+    // Of each access the first partner alone; of the first access that races the partners alone; their number is one too small.
+    FirstPartners,
+    FirstAccess,
+    Fewer,
+    // A trace that breaks a rule has the pairs before that listed; row 20 comes before the rules.
+    BeforeBreak,
+    Early,
+    // Row 20 asks the earlier slice alone; the later one alone; a cell more than the pairs. With row 20 the slices hold as many pairs as they can.
+    EarlierAlone,
+    LaterAlone,
+    OneMore,
+    Written,
+}
 
-pub const LATER: usize = EARLIER + ROOM + 1;
-
-pub const END: usize = LATER + ROOM + 1;
-
-// ---- wrong ways
-
-pub const RIGHT: usize = 0;
-
-// At most 255 apart; 257; any number.
-pub const NARROW: usize = 1;
-
-pub const BROAD: usize = 2;
-
-pub const FAR: usize = 3;
-
-// Two reads conflict; two sums do; a sum and a later read do not; a path between two makes no difference.
-pub const READS: usize = 4;
-
-pub const SUMS: usize = 5;
-
-pub const SUM_READ: usize = 6;
-
-pub const ORDERED: usize = 7;
-
-// In order of s and then of t; s and t are exchanged.
-pub const BY_EARLIER: usize = 8;
-
-pub const EXCHANGED: usize = 9;
-
-// Of each access the first partner alone; of the first access that races the partners alone; their number is one too small.
-pub const FIRST_PARTNERS: usize = 10;
-
-pub const FIRST_ACCESS: usize = 11;
-
-pub const FEWER: usize = 12;
-
-// A trace that breaks a rule has the pairs before that listed; row 20 comes before the rules.
-pub const BEFORE_BREAK: usize = 13;
-
-pub const EARLY: usize = 14;
-
-// Row 20 asks the earlier slice alone; the later one alone; a cell more than the pairs. With row 20 the slices hold as many pairs as they can.
-pub const EARLIER_ALONE: usize = 15;
-
-pub const LATER_ALONE: usize = 16;
-
-pub const ONE_MORE: usize = 17;
-
-pub const WRITTEN: usize = 18;
-
-pub const WAYS: usize = 19;
+impl Way {
+    pub const WRONG: [Way; 18] = [
+        Way::Narrow,
+        Way::Broad,
+        Way::Far,
+        Way::Reads,
+        Way::Sums,
+        Way::SumRead,
+        Way::Ordered,
+        Way::ByEarlier,
+        Way::Exchanged,
+        Way::FirstPartners,
+        Way::FirstAccess,
+        Way::Fewer,
+        Way::BeforeBreak,
+        Way::Early,
+        Way::EarlierAlone,
+        Way::LaterAlone,
+        Way::OneMore,
+        Way::Written,
+    ];
+}
 
 // ---- pairs
 
@@ -74,139 +70,106 @@ struct Pair {
 
 // The pair of two events, the earlier one first.
 fn pair_of(x: usize, y: usize) -> Pair {
-    if x < y {
-        return Pair { s: x, t: y };
+    Pair {
+        s: x.min(y),
+        t: x.max(y),
     }
-    Pair { s: y, t: x }
 }
 
 // "with t − s at most 256"
-fn is_close(pair: Pair, way: usize) -> bool {
-    let apart = minus(pair.t, pair.s);
-    if way == NARROW {
-        return apart <= 255;
+fn is_close(pair: Pair, way: Way) -> bool {
+    let apart = pair.t.abs_diff(pair.s);
+    match way {
+        Way::Narrow => apart <= 255,
+        Way::Broad => apart <= 257,
+        Way::Far => true,
+        _ => apart <= 256,
     }
-    if way == BROAD {
-        return apart <= 257;
-    }
-    (apart <= 256) | (way == FAR)
 }
 
-// Whether two accesses of these kinds to one location are taken to conflict, or not to, against the sentences.
-fn is_wrong(x: usize, y: usize, way: usize) -> bool {
-    if way == READS {
-        return (x == READ) & (y == READ);
+// Whether two accesses to one location are taken to conflict, or not to, against the sentences.
+fn is_wrong(x: Event, y: Event, way: Way) -> bool {
+    match way {
+        Way::Reads => x.is(Kind::Read) && y.is(Kind::Read),
+        Way::Sums => x.is(Kind::Sum) && y.is(Kind::Sum),
+        Way::SumRead => x.is(Kind::Sum) && y.is(Kind::Read),
+        _ => false,
     }
-    if way == SUMS {
-        return (x == SUM) & (y == SUM);
-    }
-    (x == SUM) & (y == READ) & (way == SUM_READ)
 }
 
-fn conflicts(x: Event, y: Event, way: usize) -> bool {
-    let wrong = (x.operand == y.operand) & is_wrong(x.kind, y.kind, way);
+fn conflicts(x: Event, y: Event, way: Way) -> bool {
+    let wrong = x.operand == y.operand && is_wrong(x, y, way);
     conflict(x, y) != wrong
 }
 
 // "They race if they conflict and neither reaches the other."
-fn is_pair(
-    kinds: &[u8],
-    tasks: &[u16],
-    operands: &[u16],
-    pair: Pair,
-    way: usize,
-    memory: &[usize],
-) -> bool {
-    if !is_close(pair, way) {
+fn is_pair(trace: Trace<'_>, paths: &Paths, pair: Pair, way: Way) -> bool {
+    if !is_close(pair, way) || !conflicts(trace.event(pair.s), trace.event(pair.t), way) {
         return false;
     }
-    let x = event_at(kinds, tasks, operands, pair.s);
-    let y = event_at(kinds, tasks, operands, pair.t);
-    if !conflicts(x, y, way) {
-        return false;
-    }
-    let path = reaches(memory, pair.s, pair.t) | reaches(memory, pair.t, pair.s);
-    !path | (way == ORDERED)
+    let path = paths.reaches(pair.s, pair.t) || paths.reaches(pair.t, pair.s);
+    !path || way == Way::Ordered
 }
 
 // ---- the list
 
 // Whether one more is listed, where there are so many pairs, and so many before those of this event.
-fn is_wanted(before: usize, count: usize, way: usize) -> bool {
-    let first = (way != FIRST_PARTNERS) | (count == before);
-    let alone = (way != FIRST_ACCESS) | (before == 0);
-    first & alone
+fn is_wanted(before: usize, count: usize, way: Way) -> bool {
+    match way {
+        Way::FirstPartners => count == before,
+        Way::FirstAccess => before == 0,
+        _ => true,
+    }
 }
 
-fn turned(pair: Pair, way: usize) -> Pair {
-    if way == EXCHANGED {
-        return Pair {
+fn turned(pair: Pair, way: Way) -> Pair {
+    match way {
+        Way::Exchanged => Pair {
             s: pair.t,
             t: pair.s,
-        };
+        },
+        _ => pair,
     }
-    pair
 }
 
-// Puts a pair behind so many, if it is listed. Answers how many there are then.
-fn put_one(pair: Pair, listed: bool, count: usize, memory: &mut [usize]) -> usize {
-    if !listed {
-        return count;
+impl Memory {
+    // Puts a pair behind so many. One that finds no room is counted alone. Answers how many there are then.
+    fn put_pair(&mut self, pair: Pair, count: usize) -> usize {
+        put(&mut self.first, count, pair.s);
+        put(&mut self.second, count, pair.t);
+        count.wrapping_add(1)
     }
-    put_word(memory, plus(EARLIER, least(count, ROOM)), pair.s);
-    put_word(memory, plus(LATER, least(count, ROOM)), pair.t);
-    more(count)
-}
 
-// Puts the pairs of event x and each from `from` on up to `to`, behind so many. Answers how many there are then.
-fn put_some(
-    kinds: &[u8],
-    tasks: &[u16],
-    operands: &[u16],
-    x: usize,
-    from: usize,
-    to: usize,
-    before: usize,
-    way: usize,
-    memory: &mut [usize],
-) -> usize {
-    let mut count = before;
-    let mut y = from;
-    while y < to {
-        let pair = pair_of(x, y);
-        let is = is_pair(kinds, tasks, operands, pair, way, memory);
-        let listed = is & is_wanted(before, count, way);
-        count = put_one(turned(pair, way), listed, count, memory);
-        y += 1;
+    // Puts the pairs of event x and each from `from` on up to `to`, behind so many. Answers how many there are then.
+    fn put_pairs_of(
+        &mut self,
+        trace: Trace<'_>,
+        x: usize,
+        from: usize,
+        to: usize,
+        before: usize,
+        way: Way,
+    ) -> usize {
+        let mut count = before;
+        for y in from..to {
+            let pair = pair_of(x, y);
+            if is_pair(trace, &self.paths, pair, way) && is_wanted(before, count, way) {
+                count = self.put_pair(turned(pair, way), count);
+            }
+        }
+        count
     }
-    count
-}
 
-// "in order of t and then of s": the events before x, or else those behind it.
-fn start_of(x: usize, way: usize) -> usize {
-    if way == BY_EARLIER { more(x) } else { 0 }
-}
-
-fn end_of(x: usize, n: usize, way: usize) -> usize {
-    if way == BY_EARLIER { n } else { x }
-}
-
-// "list all racing pairs s, t .., each pair once": of the first n events, among which the paths are known. Answers how many.
-pub fn put_all(
-    kinds: &[u8],
-    tasks: &[u16],
-    operands: &[u16],
-    n: usize,
-    way: usize,
-    memory: &mut [usize],
-) -> usize {
-    let mut count = 0;
-    let mut x = 0;
-    while x < n {
-        let from = start_of(x, way);
-        let to = end_of(x, n, way);
-        count = put_some(kinds, tasks, operands, x, from, to, count, way, memory);
-        x += 1;
+    // "list all racing pairs s, t .., each pair once", "in order of t and then of s": of the first n events, among which the paths are known, each with those before it.
+    // The wrong way round, with those behind it. Answers how many.
+    pub fn put_pairs(&mut self, trace: Trace<'_>, n: usize, way: Way) -> usize {
+        let mut count = 0;
+        for x in 0..n {
+            count = match way {
+                Way::ByEarlier => self.put_pairs_of(trace, x, x + 1, n, count, way),
+                _ => self.put_pairs_of(trace, x, 0, x, count, way),
+            };
+        }
+        count
     }
-    count
 }

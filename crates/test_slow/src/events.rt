@@ -1,63 +1,97 @@
 // The events of a trace.
-use test_cells::{get, get_byte};
+use test_cells::get;
 
 // "Kinds are 0 read, 1 write, 2 fork, 3 join, 4 halt." Document 02, K3: "Kind 5 becomes a sum".
-pub const READ: usize = 0;
+#[derive(Clone, Copy, PartialEq, Eq)]
+pub enum Kind {
+    Read,
+    Write,
+    Fork,
+    Join,
+    Halt,
+    Sum,
+}
 
-pub const WRITE: usize = 1;
+// A byte that is the number of no kind.
+#[derive(Clone, Copy, PartialEq, Eq)]
+pub struct UnknownKind(pub u8);
 
-pub const FORK: usize = 2;
+impl TryFrom<u8> for Kind {
+    type Error = UnknownKind;
 
-pub const JOIN: usize = 3;
+    fn try_from(byte: u8) -> Result<Kind, UnknownKind> {
+        match byte {
+            0 => Ok(Kind::Read),
+            1 => Ok(Kind::Write),
+            2 => Ok(Kind::Fork),
+            3 => Ok(Kind::Join),
+            4 => Ok(Kind::Halt),
+            5 => Ok(Kind::Sum),
+            _ => Err(UnknownKind(byte)),
+        }
+    }
+}
 
-pub const HALT: usize = 4;
-
-pub const SUM: usize = 5;
-
-#[derive(Clone, Copy)]
+// An event, as document 01 writes it: `0 fork 1`.
+#[derive(Clone, Copy, PartialEq, Eq)]
 pub struct Event {
-    pub kind: usize,
     pub task: usize,
+    pub kind: Result<Kind, UnknownKind>,
     pub operand: usize,
 }
 
-pub fn event_at(kinds: &[u8], tasks: &[u16], operands: &[u16], q: usize) -> Event {
-    Event {
-        kind: get_byte(kinds, q),
-        task: get(tasks, q),
-        operand: get(operands, q),
+impl Event {
+    pub fn new(task: usize, kind: Kind, operand: usize) -> Event {
+        Event {
+            task,
+            kind: Ok(kind),
+            operand,
+        }
+    }
+
+    pub fn is(self, kind: Kind) -> bool {
+        self.kind == Ok(kind)
+    }
+
+    pub fn is_access(self) -> bool {
+        self.is(Kind::Read) || self.is(Kind::Write) || self.is(Kind::Sum)
+    }
+
+    // The number of its kind.
+    pub fn byte(self) -> u8 {
+        match self.kind {
+            Ok(kind) => kind as u8,
+            Err(UnknownKind(byte)) => byte,
+        }
     }
 }
 
-// A position, if there is one.
 #[derive(Clone, Copy)]
-pub enum Found {
-    At(usize),
-    Nothing,
+pub struct Trace<'a> {
+    pub kinds: &'a [u8],
+    pub tasks: &'a [u16],
+    pub operands: &'a [u16],
 }
 
-// The latest event of a task before q.
-pub fn latest(tasks: &[u16], task: usize, q: usize) -> Found {
-    let mut p = q;
-    while 0 < p {
-        p -= 1;
-        if get(tasks, p) == task {
-            return Found::At(p);
-        }
+impl Trace<'_> {
+    pub fn len(self) -> usize {
+        self.kinds.len()
     }
-    Found::Nothing
-}
 
-// The latest event before q of this kind whose cell, its task or its operand, is x.
-pub fn find(kinds: &[u8], cells: &[u16], kind: usize, x: usize, q: usize) -> Found {
-    let mut p = q;
-    while 0 < p {
-        p -= 1;
-        if get_byte(kinds, p) == kind {
-            if get(cells, p) == x {
-                return Found::At(p);
-            }
+    // Past the end stand reads of location 0 by task 0.
+    pub fn event(self, q: usize) -> Event {
+        let byte = self.kinds.get(q).copied().unwrap_or(0);
+        Event {
+            task: get(self.tasks, q),
+            kind: Kind::try_from(byte),
+            operand: get(self.operands, q),
         }
     }
-    Found::Nothing
+
+    // The latest event before q that is as asked for.
+    pub fn latest<F: Fn(Event) -> bool>(self, q: usize, asked: F) -> Option<usize>
+        requires { F.IsAlwaysCallable asked }
+    {
+        (0..q).rev().find(|p| asked(self.event(*p)))
+    }
 }

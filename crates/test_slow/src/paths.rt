@@ -1,62 +1,81 @@
 // Paths: for each event all its ancestors are stored, as a row of bits, and every question about paths is asked of those rows.
-use crate::events::{Event, FORK, Found, HALT, JOIN, find, latest};
-use crate::memory::{EVENTS, WORDS};
-use test_cells::{get_word, plus, put_word};
+ghost use Rattle.std.specs.Prelude.{◌<◌};
 
-// A word of the row of event q.
-fn word_of(q: usize, w: usize) -> usize {
-    plus((q % EVENTS) * WORDS, w)
+use crate::events::{Kind, Trace};
+use std::alloc::{AllocError, Global};
+use std::array;
+
+// The most events that a trace may have: each has a row of bits with one for each event, in WORDS words.
+pub const EVENTS: usize = 4096;
+
+const WORDS: usize = 64;
+
+#[derive(Drop)]
+pub struct Paths {
+    rows: Vec<[u64; WORDS]>,
 }
 
-// The bit of event p in a word of a row, 0 in the other words.
-fn bit(p: usize, w: usize) -> usize {
-    let one: usize = 1;
-    if (p % EVENTS) / 64 == w {
-        return one << (p % 64);
-    }
-    0
+// The word and the bit of event p in a row.
+fn word(p: usize) -> usize
+    ensures { result < 64 }
+{
+    p % EVENTS / 64
 }
 
-// Whether p reaches q: "p = q or a chain of arcs leads from p to q".
-pub fn reaches(memory: &[usize], p: usize, q: usize) -> bool {
-    if p == q {
-        return true;
-    }
-    let w = (p % EVENTS) / 64;
-    get_word(memory, word_of(q, w)) & bit(p, w) != 0
+fn bit(p: usize) -> u64 {
+    1 << (p % 64)
 }
 
 // "Arcs go from each event to the same task's next event, from a fork to the child's first event, ..": where the arc into q comes from.
-pub fn of_task(kinds: &[u8], tasks: &[u16], operands: &[u16], event: Event, q: usize) -> Found {
-    let before = latest(tasks, event.task, q);
-    match before {
-        Found::At(_) => before,
-        Found::Nothing => find(kinds, operands, FORK, event.task, q),
-    }
+fn of_task(trace: Trace<'_>, q: usize) -> Option<usize> {
+    let task = trace.event(q).task;
+    trace.latest(q, |event| event.task == task).or_else(|| trace.latest(
+        q,
+        |event| event.is(Kind::Fork) && event.operand == task,
+    ))
 }
 
 // ".. and from a task's halt to the join that names it."
-pub fn of_join(kinds: &[u8], tasks: &[u16], event: Event, q: usize) -> Found {
-    if event.kind == JOIN {
-        return find(kinds, tasks, HALT, event.operand, q);
+fn of_join(trace: Trace<'_>, q: usize) -> Option<usize> {
+    let join = trace.event(q);
+    if !join.is(Kind::Join) {
+        return None;
     }
-    Found::Nothing
+    trace.latest(
+        q,
+        |event| event.is(Kind::Halt) && event.task == join.operand,
+    )
 }
 
-// What an arc from an event, if there is one, brings into a word: the event and its ancestors.
-fn brought(memory: &[usize], from: Found, w: usize) -> usize {
-    let Found::At(p) = from else {
-        return 0;
-    };
-    get_word(memory, word_of(p, w)) | bit(p, w)
-}
+impl Paths {
+    pub fn new(alloc: Global) -> Result<Paths, AllocError> {
+        Ok(Paths {
+            rows: vec![in alloc; [0; WORDS]; EVENTS]?,
+        })
+    }
 
-// The row of q from the arcs that lead to it.
-pub fn fill_row(memory: &mut [usize], one: Found, other: Found, q: usize) {
-    let mut w = 0;
-    while w < WORDS {
-        let word = brought(memory, one, w) | brought(memory, other, w);
-        put_word(memory, word_of(q, w), word);
-        w += 1;
+    // Whether p reaches q: "p = q or a chain of arcs leads from p to q".
+    pub fn reaches(&self, p: usize, q: usize) -> bool {
+        let row = self.rows.get(q);
+        p == q || row.is_some_and(|row| row[word(p)] & bit(p) != 0)
+    }
+
+    // What an arc from an event, if there is one, brings into a row: the event and its ancestors.
+    fn brought(&self, from: Option<usize>) -> [u64; WORDS] {
+        let Some(p) = from else {
+            return [0; WORDS];
+        };
+        let mut row = self.rows.get(p).copied().unwrap_or([0; WORDS]);
+        row[word(p)] |= bit(p);
+        row
+    }
+
+    // Fills the row of q from the arcs that lead to it.
+    pub fn take(&mut self, trace: Trace<'_>, q: usize) {
+        let one = self.brought(of_task(trace, q));
+        let other = self.brought(of_join(trace, q));
+        if let Some(row) = self.rows.get_mut(q) {
+            *row = array::from_fn(|w| one[w] | other[w]);
+        }
     }
 }

@@ -7,17 +7,10 @@ fn append(text: &mut [u8], used: usize, line: &[u8]) -> usize
     requires { used ≤ length text.old }
     ensures { Built text.old text.new result }
 {
-    let mut at = used;
-    let mut i: usize = 0;
-    while i < line.len() {
-        if text.len() <= at {
-            return at;
-        }
-        text[at] = line[i];
-        at += 1;
-        i += 1;
-    }
-    at
+    let room = &mut text[used..];
+    let count = line.len().min(room.len());
+    room[..count].copy_from_slice(&line[..count]);
+    used + count
 }
 
 // The same line over and over.
@@ -26,10 +19,8 @@ fn repeat(text: &mut [u8], used: usize, line: &[u8], times: usize) -> usize
     ensures { Built text.old text.new result }
 {
     let mut at = used;
-    let mut left = times;
-    while 0 < left {
+    for _ in 0..times {
         at = append(text, at, line);
-        left -= 1;
     }
     at
 }
@@ -43,13 +34,6 @@ pub fn build(text: &mut [u8], first: &[u8], line: &[u8], times: usize, last: &[u
     append(text, filled, last)
 }
 
-// A byte as a number to add.
-fn wide(byte: u8) -> u64
-    ensures { result < 65521 }
-{
-    byte as u64
-}
-
 fn sum(a: u64, b: u64) -> u64
     requires { (a < 65521) × (b < 65521) }
     ensures { result < 65521 }
@@ -59,13 +43,11 @@ fn sum(a: u64, b: u64) -> u64
 
 // Adler-32.
 pub fn checksum(bytes: &[u8]) -> u64 {
-    let mut low: u64 = 1;
-    let mut high: u64 = 0;
-    let mut i: usize = 0;
-    while i < bytes.len() {
-        low = sum(low, wide(bytes[i]));
+    let mut low = 1;
+    let mut high = 0;
+    for byte in bytes {
+        low = sum(low, u64::from(*byte));
         high = sum(high, low);
-        i += 1;
     }
     high * 65536 + low
 }

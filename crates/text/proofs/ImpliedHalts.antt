@@ -1,6 +1,7 @@
 -- The loops of `unwind` and `halt_above`: the search for a task's highest place from the top of the stack, and the halts of the tasks above it, top
 -- first; and the operand of a halt, for `halt_operand`. Assumes nothing.
 use Prim.Native.Nat.{ℕ, zero, suc, ◌+◌, ◌-◌, ◌≤◌, ◌<◌}
+use native.Mathlib.Numerals.{add-one}
 use native.Mathlib.Omega.{arith}
 use mathlib.Core.Path.{◌≡◌, refl, ap, ◌∙◌}
 use mathlib.Core.List.{List}
@@ -32,34 +33,27 @@ searching_begins cells task depth =
     same none = refl
     same (some n) = ap (λ (m : ℕ). some m) (omega arith)
 
-pub searching_more : (cells : List ℕ) (task depth place : ℕ) → Searching cells task depth place → 0 < place
-    → (get_or cells (place - 1) 0 ≡ task → ⊥) → Searching cells task depth (place - 1)
-searching_more cells task depth zero s p n = absurd (omega arith)
-searching_more cells task depth (suc place) s p n =
+pub searching_more : (cells : List ℕ) (task depth place : ℕ) → Searching cells task depth (place + 1)
+    → (get_or cells place 0 ≡ task → ⊥) → Searching cells task depth place
+searching_more cells task depth place s n =
     let w = s.within in
-    let e : suc place - 1 ≡ place = omega arith in
-    let g : get_or cells place 0 ≡ task → ⊥ = rw e at n in
-    let f = rw (ne_eqb (get_or cells place 0) task g) at s.left in
-    rw e (record { within = omega arith; left = f ∙ joined (above task (tasks_of cells place)) w })
+    let f = rw (add-one, ne_eqb (get_or cells place 0) task n) at s.left in
+    record { within = omega arith; left = f ∙ joined (above task (tasks_of cells place)) (omega arith) }
   where
     joined : (o : Option ℕ) → suc place ≤ depth → raised (depth - suc place) (o then λ n. some (n + 1)) ≡ raised (depth - place) o
     joined none w = refl
     joined (some n) w = ap (λ (m : ℕ). some m) (omega arith)
 
-pub searching_found : (cells : List ℕ) (task depth place : ℕ) → Searching cells task depth place → 0 < place
-    → get_or cells (place - 1) 0 ≡ task → place ≡ depth - implied task (tasks_of cells depth)
-searching_found cells task depth zero s p h = absurd (omega arith)
-searching_found cells task depth (suc place) s p h =
+pub searching_found : (cells : List ℕ) (task depth place : ℕ) → Searching cells task depth (place + 1)
+    → get_or cells place 0 ≡ task → place + 1 ≡ depth - implied task (tasks_of cells depth)
+searching_found cells task depth place s h =
     let w = s.within in
-    let e : suc place - 1 ≡ place = omega arith in
-    let g : get_or cells place 0 ≡ task = rw e at h in
-    let f = rw (eq-eqb (get_or cells place 0) task g) at s.left in
+    let f = rw (add-one, eq-eqb (get_or cells place 0) task h) at s.left in
     rw f (omega arith)
 
-pub searching_ends : (cells : List ℕ) (task depth place : ℕ) → Searching cells task depth place → place ≤ 0
+pub searching_ends : (cells : List ℕ) (task depth : ℕ) → Searching cells task depth 0
     → depth ≡ depth - implied task (tasks_of cells depth)
-searching_ends cells task depth zero s p = rw s.left (omega arith)
-searching_ends cells task depth (suc place) s p = absurd (omega arith)
+searching_ends cells task depth s = rw s.left (omega arith)
 
 -- ---- `halt_operand`
 

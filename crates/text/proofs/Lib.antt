@@ -1,7 +1,6 @@
 -- The laws behind the contracts.
 pub mod StackLaws
 pub mod TokenRows
-pub mod Words
 pub mod ImpliedHalts
 pub mod LineEvents
 pub mod Translating

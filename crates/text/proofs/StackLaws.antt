@@ -9,7 +9,7 @@ use lib.Seq.{get_or-set_same, get_or-set_other}
 use Rattle.form.specs.Events.{pushed}
 use Rattle.text.specs.Answers.{tasks_of}
 use Rattle.form.specs.declared.Operation.{Operation}
-use Rattle.form.specs.declared.Operation.TheVariants.{Read, Write, Fork, Join}
+use Rattle.form.specs.declared.Operation.TheVariants.{Fork}
 
 pub length_tasks : (cells : List ℕ) (depth : ℕ) → length (tasks_of cells depth) ≡ depth
 length_tasks cells zero = refl
@@ -26,16 +26,7 @@ drop_tasks cells (suc k) zero = let e : zero - suc k ≡ zero = omega arith in r
 drop_tasks cells (suc k) (suc depth) =
     let e : suc depth - suc k ≡ depth - k = omega arith in rw (e, drop_tasks cells k depth)
 
--- One law for each arm of `push`.
-module _ (o : Operation) (t : ℕ) (cells : List ℕ) (depth : ℕ) where
-  pub push_read : o ≡ Read → tasks_of cells depth ≡ pushed o t (tasks_of cells depth)
-  push_read e = rw e
-
-  pub push_write : o ≡ Write → tasks_of cells depth ≡ pushed o t (tasks_of cells depth)
-  push_write e = rw e
-
-  pub push_join : o ≡ Join → tasks_of cells depth ≡ pushed o t (tasks_of cells depth)
-  push_join e = rw e
-
-  pub push_fork : depth < length cells → o ≡ Fork → tasks_of (set cells depth t) (depth + 1) ≡ pushed o t (tasks_of cells depth)
-  push_fork h e = rw (e, add-one, get_or-set_same cells depth t 0 h, tasks_set cells depth t depth (omega arith))
+-- A fork's operand lies on top of the tasks that are left.
+pub push_fork : (o : Operation) (t : ℕ) (cells : List ℕ) (depth : ℕ) → depth < length cells → o ≡ Fork
+    → tasks_of (set cells depth t) (depth + 1) ≡ pushed o t (tasks_of cells depth)
+push_fork o t cells depth h e = rw (e, add-one, get_or-set_same cells depth t 0 h, tasks_set cells depth t depth (omega arith))

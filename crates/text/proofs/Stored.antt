@@ -6,18 +6,17 @@ use mathlib.Core.Path.{◌≡◌, refl, sym, ap, ◌∙◌}
 use mathlib.Core.List.{List, ◌++◌, map}
 use lib.ListN.{length, take, replicate, length-append, length-map, length-replicate}
 use lib.Seq.{take_at}
+use Rattle.std.specs.Prelude.{Result, Ok, Err}
 use Rattle.trace.specs.Trace.{Event}
 use Rattle.trace.specs.Outcome.{Reply, says, refused}
 use Rattle.trace.specs.Slices.{Slices, slices, Room, Translated}
-use Rattle.trace.specs.Answers.{translation_reply, translated_of}
+use Rattle.trace.specs.Answers.{reply, translated_of}
 use Rattle.trace.specs.declared.Refusal.{Refusal}
 use Rattle.trace.proofs.Sizes.{refused_not_says}
 use Rattle.trace.proofs.Slices.{After}
 use Rattle.form.specs.Decided.{MAX_TEXT_EVENTS}
 use Rattle.form.specs.Translation.{translation, translated}
 use Rattle.form.proofs.Accepted.{Sized, slices_after}
-use Rattle.trace.specs.declared.Translation.{Translation}
-use Rattle.trace.specs.declared.Translation.TheVariants.{Events, Refused}
 
 by_reply : {A : Type 0} {C : Type 0} (reply : Reply A) → ((a : A) → reply ≡ says a → C) → ((number position : ℕ) → reply ≡ refused number position → C) → C
 by_reply (says a) f g = f a refl
@@ -82,12 +81,12 @@ unfolding translated
 translated_refused text b number position e = rw e
 
 -- What `translate` answers, and leaves in slices that had the content of b.
-module _ (text : List ℕ) (b : Slices) (sized : Sized b) (kinds tasks operands : List ℕ) (r : Translation)
+module _ (text : List ℕ) (b : Slices) (sized : Sized b) (kinds tasks operands : List ℕ) (r : Result ℕ Refusal)
     (told : translated_of r (slices kinds tasks operands) ≡ translated text b) where
-  module _ (count : ℕ) (is-events : r ≡ Events count) where
+  module _ (count : ℕ) (is-ok : r ≡ Ok count) where
     said_count : says count ≡ (translated text b).answer
-    unfolding translation_reply
-    said_count = rw is-events at (ap (λ (z : Translated). z.answer) told)
+    unfolding reply
+    said_count = rw is-ok at (ap (λ (z : Translated). z.answer) told)
 
     pub stored : Stored text kinds tasks operands count
     stored =
@@ -96,10 +95,10 @@ module _ (text : List ℕ) (b : Slices) (sized : Sized b) (kinds tasks operands 
         after_stored {b = b} es e (says_injective f) (rw (ap (λ (z : Translated). z.slices) told) (slices_after text b es sized e)))
         (λ number position e. absurd (refused_not_says (translated_refused text b number position e) (sym said_count)))
 
-  module _ (x : Refusal) (is-refused : r ≡ Refused x) where
+  module _ (x : Refusal) (is-err : r ≡ Err x) where
     said : refused x.number x.position ≡ (translated text b).answer
-    unfolding translation_reply
-    said = rw is-refused at (ap (λ (z : Translated). z.answer) told)
+    unfolding reply
+    said = rw is-err at (ap (λ (z : Translated). z.answer) told)
 
     pub said_refusal : translation text ≡ refused x.number x.position
     said_refusal =

@@ -1,128 +1,111 @@
-// The tokens of a trace line, read left to right by a cursor by value: each method hands back the token with the moved cursor.
-ghost use Rattle.std.specs.Prelude.{◌≡◌, drop};
-ghost use Rattle.form.specs.Reading.{word, operation, field, line};
-ghost use Rattle.text.specs.Answers.{after_word, after_field, after_operation, after_line};
+// The tokens of a trace line, read left to right.
+ghost use Rattle.std.specs.Prelude.{◌≤◌, length};
 
 use form::{Line, Operation};
-use numbers::NumberToken;
 
 // The greatest number of the text form.
 const GREATEST: u16 = 65535;
 
-// A place in a text.
+// A text with the offset that is read next: a small reader, and a cursor by value, since each method hands back its token with the moved cursor. Each token is
+// taken apart by `let .. else`, where `?` would do: "the first byte that doesn't fit gives 14" asks for that form.
 #[derive(Clone, Copy)]
-pub struct Cursor {
-    pub at: usize,
+pub struct Cursor<'a> {
+    text: &'a [u8],
+    at: usize,
+    ghost within: { at ≤ length text.now },
 }
 
-#[derive(Clone, Copy)]
-pub enum WordToken {
-    Matched(Cursor),
-    Mismatch,
-}
+impl<'a> Cursor<'a> {
+    ghost use Rattle.std.specs.Prelude.{◌≡◌, ◌==◌};
+    ghost use Rattle.form.specs.Reading.{word, operation, field, line};
+    ghost use Rattle.text.specs.Answers.{left_of, after_word, after_token};
 
-#[derive(Clone, Copy)]
-pub enum FieldToken {
-    Field(u16, Cursor),
-    NoField,
-}
-
-#[derive(Clone, Copy)]
-pub enum OperationToken {
-    Known(Operation, Cursor),
-    NoOperation,
-}
-
-#[derive(Clone, Copy)]
-pub enum LineToken {
-    Whole(Line, Cursor),
-    Malformed,
-}
-
-impl Cursor {
-    // The cursor past `expected`, where that stands next.
-    pub fn word(self, text: &[u8], expected: &[u8]) -> WordToken
-        ensures { after_word text.now result ≡ word expected.now (drop self.at text.now) }
+    pub fn new(text: &'a [u8]) -> Cursor<'a>
+        ensures { left_of result ≡ text.now }
     {
-        let mut at = self.at;
-        let mut i: usize = 0;
-        while i < expected.len() {
-            if text.len() <= at {
-                return WordToken::Mismatch;
-            }
-            if text[at] != expected[i] {
-                return WordToken::Mismatch;
-            }
-            at += 1;
-            i += 1;
-        }
-        WordToken::Matched(Cursor { at })
+        Cursor { text, at: 0 }
+    }
+
+    pub fn is_at_end(self) -> bool
+        ensures { result ≡ (length (left_of self.entry) == 0) }
+    {
+        self.at == self.text.len()
+    }
+
+    // Past `expected`, where that stands next.
+    fn word(self, expected: &[u8]) -> Option<Cursor<'a>>
+        ensures { after_word result ≡ word expected.now (left_of self.entry) }
+    {
+        let Some(_) = self.text[self.at..].strip_prefix(expected) else {
+            return None;
+        };
+        Some(Cursor {
+            text: self.text,
+            at: self.at + expected.len(),
+        })
     }
 
     // An operation, up to the letter of its operand.
-    pub fn operation(self, text: &[u8]) -> OperationToken
-        ensures { after_operation text.now result ≡ operation (drop self.at text.now) }
+    fn operation(self) -> Option<(Operation, Cursor<'a>)>
+        ensures { after_token result ≡ operation (left_of self.entry) }
     {
-        let read = self.word(text, b"r(V");
-        if let WordToken::Matched(next) = read {
-            return OperationToken::Known(Operation::Read, next);
+        if let Some(past) = self.word(b"r(V") {
+            return Some((Operation::Read, past));
         }
-        let write = self.word(text, b"w(V");
-        if let WordToken::Matched(next) = write {
-            return OperationToken::Known(Operation::Write, next);
+        if let Some(past) = self.word(b"w(V") {
+            return Some((Operation::Write, past));
         }
-        let fork = self.word(text, b"fork(T");
-        if let WordToken::Matched(next) = fork {
-            return OperationToken::Known(Operation::Fork, next);
+        if let Some(past) = self.word(b"fork(T") {
+            return Some((Operation::Fork, past));
         }
-        let join = self.word(text, b"join(T");
-        let WordToken::Matched(next) = join else {
-            return OperationToken::NoOperation;
+        let Some(past) = self.word(b"join(T") else {
+            return None;
         };
-        OperationToken::Known(Operation::Join, next)
+        Some((Operation::Join, past))
     }
 
     // A number between two words.
-    pub fn field(self, text: &[u8], before: &[u8], after: &[u8]) -> FieldToken
-        ensures { after_field text.now result
-            ≡ field before.now after.now (drop self.at text.now) }
+    fn field(self, before: &[u8], after: &[u8]) -> Option<(u16, Cursor<'a>)>
+        ensures { after_token result ≡ field before.now after.now (left_of self.entry) }
     {
-        let WordToken::Matched(start) = self.word(text, before) else {
-            return FieldToken::NoField;
+        let Some(start) = self.word(before) else {
+            return None;
         };
-        let NumberToken::Value(value, end) = numbers::number_at(text, start.at, GREATEST) else {
-            return FieldToken::NoField;
+        let Some(number) = numbers::number_at(start.text, start.at, GREATEST) else {
+            return None;
         };
-        let WordToken::Matched(next) = (Cursor { at: end }).word(text, after) else {
-            return FieldToken::NoField;
+        let end = Cursor {
+            text: start.text,
+            at: number.end,
         };
-        FieldToken::Field(value, next)
+        let Some(past) = end.word(after) else {
+            return None;
+        };
+        Some((number.value, past))
     }
 
     // A line from its T to its line feed.
-    pub fn line(self, text: &[u8]) -> LineToken
-        ensures { after_line text.now result ≡ line (drop self.at text.now) }
+    pub fn line(self) -> Option<(Line, Cursor<'a>)>
+        ensures { after_token result ≡ line (left_of self.entry) }
     {
-        let FieldToken::Field(task, past_task) = self.field(text, b"T", b"|") else {
-            return LineToken::Malformed;
+        let Some((task, past_task)) = self.field(b"T", b"|") else {
+            return None;
         };
-        let OperationToken::Known(operation, past_opening) = past_task.operation(text) else {
-            return LineToken::Malformed;
+        let Some((operation, past_opening)) = past_task.operation() else {
+            return None;
         };
-        let FieldToken::Field(operand, past_operand) = past_opening.field(text, b"", b")|") else {
-            return LineToken::Malformed;
+        let Some((operand, past_operand)) = past_opening.field(b"", b")|") else {
+            return None;
         };
-        let FieldToken::Field(source, next) = past_operand.field(text, b"", b"\n") else {
-            return LineToken::Malformed;
+        let Some((source, past)) = past_operand.field(b"", b"\n") else {
+            return None;
         };
-        LineToken::Whole(
-            Line {
-                task,
-                operation,
-                operand,
-                source,
-            },
-            next,
-        )
+        let line = Line {
+            task,
+            operation,
+            operand,
+            source,
+        };
+        Some((line, past))
     }
 }

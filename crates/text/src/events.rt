@@ -1,22 +1,17 @@
-// The events of one line, with the halts that it implies, and the stack of tasks.
-ghost use Rattle.std.specs.Prelude.{◌≡◌, ◌-◌, ◌≤◌, ◌<◌, length};
+// The events of one line, with the halts that it implies, and the stack of tasks. The three lent arrays are no struct: each function would have to promise that
+// the struct holds the same three.
+ghost use Rattle.std.specs.Prelude.{◌≡◌, ◌-◌, ◌≤◌, ◌<◌, [], ◌∷◌, length};
 ghost use Rattle.trace.specs.Line.{resumed};
-ghost use Rattle.trace.specs.Slices.{slices, store, store_all};
+ghost use Rattle.trace.specs.Slices.{slices, store_all};
 ghost use Rattle.form.specs.Events.{kind_of, implied, halts, pushed};
 ghost use Rattle.form.specs.Decided.{MAX_TEXT_EVENTS};
-ghost use Rattle.text.specs.Answers.{tasks_of, STACK_CELLS, StackAfter, HaltsFit, added, added_of};
+ghost use Rattle.text.specs.Answers.{tasks_of, tasks_on, STACK_CELLS, StackAfter, HaltsFit, added, added_of};
 
 use crate::limits::{MAX_TEXT_EVENTS, STACK_CELLS};
 use form::{Line, Operation};
-use trace::{FORK, HALT, JOIN, READ, WRITE};
+use trace::{Event, FORK, HALT, JOIN, READ, WRITE};
 
-// What a line leaves: the number of events and the depth of the stack.
-#[derive(Clone, Copy)]
-pub enum Added {
-    To(usize, usize),
-    TooMany,
-}
-
+// `From` would need a definition of its own for this one call.
 fn kind_of(operation: Operation) -> u8
     ensures { result ≡ kind_of operation }
 {
@@ -28,126 +23,110 @@ fn kind_of(operation: Operation) -> u8
     }
 }
 
-// The depth that a line of `task` leaves: the tasks above its highest place are gone.
-fn unwind(stack: &[u16; STACK_CELLS], depth: usize, task: u16) -> usize
-    requires { depth ≤ STACK_CELLS }
-    ensures { result ≡ depth - implied task (tasks_of stack.now depth) }
-{
-    let mut place = depth;
-    while 0 < place {
-        if stack[place - 1] == task {
-            return place;
+// The stack of tasks: the first `depth` cells, the last one on top. It is no Vec: the judge takes no memory of its own.
+#[derive(Drop)]
+pub struct Stack {
+    tasks: [u16; STACK_CELLS],
+    depth: usize,
+}
+
+impl Stack {
+    // "task 0 at the bottom"
+    pub fn new() -> Stack
+        ensures { (tasks_on result ≡ 0 ∷ []) × (result.depth ≡ 1) }
+    {
+        Stack {
+            tasks: [0; STACK_CELLS],
+            depth: 1,
         }
-        place -= 1;
     }
-    depth
-}
 
-// The operand of the halt of the task at `place` of the stack: "the task that resumes", which is the one below; 0 where there is none.
-fn halt_operand(stack: &[u16; STACK_CELLS], place: usize) -> u16
-    requires { place ≤ STACK_CELLS }
-    ensures { result ≡ resumed (tasks_of stack.now place) }
-{
-    if place == 0 {
-        return 0;
+    // The depth that a line of `task` leaves: the tasks above its highest place are gone.
+    fn unwind(&self, task: u16) -> usize
+        requires { self.now.depth ≤ STACK_CELLS }
+        ensures { result ≡ self.now.depth - implied task (tasks_on self.now) }
+    {
+        for place in (0..self.depth).rev() {
+            if self.tasks[place] == task {
+                return place + 1;
+            }
+        }
+        self.depth
     }
-    stack[place - 1]
-}
 
-// Event `at` of the trace.
-fn store_event(
-    kinds: &mut [u8; MAX_TEXT_EVENTS],
-    tasks: &mut [u16; MAX_TEXT_EVENTS],
-    operands: &mut [u16; MAX_TEXT_EVENTS],
-    at: usize,
-    kind: u8,
-    task: u16,
-    operand: u16,
-)
-    requires { at < MAX_TEXT_EVENTS }
-    ensures { slices kinds.new tasks.new operands.new
-        ≡ store (slices kinds.old tasks.old operands.old) at
-        (record { kind = kind; task = task; operand = operand }) }
-{
-    kinds[at] = kind;
-    tasks[at] = task;
-    operands[at] = operand;
+    // The operand of the halt of the task at `place`: "the task that resumes", which is the one below; 0 where there is none.
+    fn halt_operand(&self, place: usize) -> u16
+        requires { place ≤ STACK_CELLS }
+        ensures { result ≡ resumed (tasks_of self.now.tasks place) }
+    {
+        if place == 0 { 0 } else { self.tasks[place - 1] }
+    }
+
+    // What a line's own event leaves over the first `base` tasks: a fork pushes its operand.
+    fn push(&mut self, base: usize, operation: Operation, operand: u16)
+        requires { base < STACK_CELLS }
+        ensures { tasks_on self.new ≡ pushed operation operand (tasks_of self.old.tasks base) }
+    {
+        self.depth = base;
+        if let Operation::Fork = operation {
+            self.tasks[base] = operand;
+            self.depth += 1;
+        }
+    }
 }
 
 // Halts for the tasks above depth `base`, top first, from event `from` on.
 fn halt_above(
-    stack: &[u16; STACK_CELLS],
+    stack: &Stack,
     base: usize,
-    depth: usize,
     kinds: &mut [u8; MAX_TEXT_EVENTS],
     tasks: &mut [u16; MAX_TEXT_EVENTS],
     operands: &mut [u16; MAX_TEXT_EVENTS],
     from: usize,
 )
-    requires { HaltsFit base depth from }
+    requires { HaltsFit base stack.now.depth from }
     ensures { slices kinds.new tasks.new operands.new
         ≡ store_all (slices kinds.old tasks.old operands.old) from
-        (halts (depth - base) (tasks_of stack.now depth)) }
+        (halts (stack.now.depth - base) (tasks_on stack.now)) }
 {
-    let mut place = depth;
     let mut at = from;
-    while base < place {
-        place -= 1;
-        let operand = halt_operand(stack, place);
-        store_event(kinds, tasks, operands, at, HALT, stack[place], operand);
+    for place in (base..stack.depth).rev() {
+        let operand = stack.halt_operand(place);
+        let event = Event {
+            kind: HALT,
+            task: stack.tasks[place],
+            operand,
+        };
+        cells::store_event(kinds, tasks, operands, at, event);
         at += 1;
     }
 }
 
-// The depth after a line's own event: a fork pushes its operand.
-fn push(stack: &mut [u16; STACK_CELLS], depth: usize, operation: Operation, operand: u16) -> usize
-    requires { (depth < STACK_CELLS) × (length stack.old ≡ STACK_CELLS) }
-    ensures room { length stack.new ≡ STACK_CELLS }
-    ensures pushed { tasks_of stack.new result ≡ pushed operation operand (tasks_of stack.old depth) }
-{
-    match operation {
-        Operation::Read => depth,
-        Operation::Write => depth,
-        Operation::Fork => {
-            stack[depth] = operand;
-            depth + 1
-        }
-        Operation::Join => depth,
-    }
-}
-
-// The events of a line that was read, where `count` events came before it.
+// The events of a line that was read, where `count` events came before it: how many there are then, or none where they are too many.
 pub fn add_line(
     line: Line,
-    stack: &mut [u16; STACK_CELLS],
-    depth: usize,
+    stack: &mut Stack,
     kinds: &mut [u8; MAX_TEXT_EVENTS],
     tasks: &mut [u16; MAX_TEXT_EVENTS],
     operands: &mut [u16; MAX_TEXT_EVENTS],
     count: usize,
-) -> Added
-    requires { StackAfter count depth stack.old }
-    ensures room { length stack.new ≡ STACK_CELLS }
-    ensures added { added_of result stack.new (slices kinds.new tasks.new operands.new)
-        ≡ added line (tasks_of stack.old depth) count (slices kinds.old tasks.old operands.old) }
+) -> Option<usize>
+    requires { StackAfter count stack.old }
+    ensures { added_of result stack.new (slices kinds.new tasks.new operands.new)
+        ≡ added line (tasks_on stack.old) count (slices kinds.old tasks.old operands.old) }
 {
-    let task = line.task;
-    let operation = line.operation;
-    let base = unwind(stack, depth, task);
-    let own = count + (depth - base);
+    let base = stack.unwind(line.task);
+    let own = count + (stack.depth - base);
     if MAX_TEXT_EVENTS <= own {
-        return Added::TooMany;
+        return None;
     }
-    halt_above(stack, base, depth, kinds, tasks, operands, count);
-    store_event(
-        kinds,
-        tasks,
-        operands,
-        own,
-        kind_of(operation),
-        task,
-        line.operand,
-    );
-    let left = push(stack, base, operation, line.operand);
-    Added::To(own + 1, left)
+    halt_above(stack, base, kinds, tasks, operands, count);
+    let event = Event {
+        kind: kind_of(line.operation),
+        task: line.task,
+        operand: line.operand,
+    };
+    cells::store_event(kinds, tasks, operands, own, event);
+    stack.push(base, line.operation, line.operand);
+    Some(own + 1)
 }

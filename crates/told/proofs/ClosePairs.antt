@@ -1,14 +1,14 @@
 -- What a C caller hears of the call for pairs is its answer, so that what is demanded of it holds of that. Assumes nothing.
 use Prim.Native.Nat.{ℕ}
 use mathlib.Core.Path.{◌≡◌, refl, sym, ap, subst, ◌∙◌}
-use mathlib.Core.List.{List, [], ◌∷◌}
+use mathlib.Core.List.{List}
+use Rattle.std.specs.Prelude.{Result}
 use Rattle.trace.specs.declared.Refusal.{Refusal}
 use Rattle.trace.specs.Outcome.{Reply, says, refused}
-use Rattle.pairs.specs.declared.Listing.{Listing}
-use Rattle.pairs.specs.declared.Listing.TheVariants.{Listed, Refused}
-use Rattle.pairs.specs.Pairs.{Slices, slices, listing_reply, PairsOutcome, pairs_gives, pairs_outcome}
+use Rattle.pairs.specs.Pairs.{Slices, slices, PairsOutcome, pairs_gives, pairs_outcome}
 use Rattle.pairs.proofs.Demanding.{Demanded, demanded}
-use Rattle.told.specs.Codes.{count_told, heard_count, PairsCall, pairs_call, pairs_seen}
+use Rattle.told.specs.Codes.{count_told, heard_count, PairsCall, pairs_call, pairs_seen, Tells, TellsCount}
+use Rattle.told.proofs.Replies.{told_count}
 
 pub count_heard : (answer : Reply ℕ) → heard_count (count_told answer).code (count_told answer).values ≡ answer
 unfolding heard_count count_told
@@ -38,13 +38,10 @@ module _ (kinds tasks operands workspace : List ℕ) (b : Slices) (code : ℕ) (
   promised e =
       (e, subst (λ (out : PairsOutcome). Demanded kinds tasks operands workspace b out) (sym (heard_is e)) (demanded kinds tasks operands workspace b))
 
--- For each case of its answer.
-module _ (kinds tasks operands workspace : List ℕ) (b : Slices) (answer : Listing) (earlier later w : List ℕ)
-    (e : pairs_gives answer earlier later w ≡ pairs_outcome kinds tasks operands workspace b) where
-  pub promised_pairs : (count : ℕ) → answer ≡ Listed count → Promised kinds tasks operands workspace b 0 (count ∷ 0 ∷ []) earlier later w
-  unfolding listing_reply count_told pairs_call
-  promised_pairs count h = promised kinds tasks operands workspace b 0 (count ∷ 0 ∷ []) earlier later w (rw (sym e, h))
-
-  pub promised_no_pairs : (r : Refusal) → answer ≡ Refused r → Promised kinds tasks operands workspace b 2 (r.number ∷ r.position ∷ []) earlier later w
-  unfolding listing_reply count_told pairs_call
-  promised_no_pairs r h = promised kinds tasks operands workspace b 2 (r.number ∷ r.position ∷ []) earlier later w (rw (sym e, h))
+-- So promises what tells its answer.
+module _ (kinds tasks operands workspace : List ℕ) (b : Slices) {code : ℕ} {values earlier later w : List ℕ} (answer : Result ℕ Refusal) where
+  pub promised_told :
+      pairs_gives answer earlier later w ≡ pairs_outcome kinds tasks operands workspace b → Tells 2 TellsCount answer code values
+      → Promised kinds tasks operands workspace b code values earlier later w
+  unfolding pairs_call
+  promised_told e told = promised kinds tasks operands workspace b code values earlier later w (rw (sym e) (cc (told_count _ _ answer told)))

@@ -1,14 +1,14 @@
 -- What a C caller hears of the conversion is its answer, so that what is demanded of it holds of that. Assumes nothing.
 use Prim.Native.Nat.{ℕ}
 use mathlib.Core.Path.{◌≡◌, refl, sym, ap, subst, ◌∙◌}
-use mathlib.Core.List.{List, [], ◌∷◌}
+use mathlib.Core.List.{List}
+use Rattle.std.specs.Prelude.{Result}
 use Rattle.trace.specs.declared.Refusal.{Refusal}
 use Rattle.trace.specs.Outcome.{Reply, says, refused}
-use Rattle.convert.specs.declared.Conversion.{Conversion}
-use Rattle.convert.specs.declared.Conversion.TheVariants.{Converted, Refused}
-use Rattle.convert.specs.Conversion.{Done, done, conversion_reply, ConvertOutcome, convert_gives, convert_outcome}
+use Rattle.convert.specs.Conversion.{Done, done, ConvertOutcome, convert_gives, convert_outcome}
 use Rattle.convert.proofs.Meaning.{Demanded, demanded}
-use Rattle.told.specs.Codes.{conversion_told, heard_conversion, ConvertCall, convert_call, convert_seen}
+use Rattle.told.specs.Codes.{conversion_told, heard_conversion, ConvertCall, convert_call, convert_seen, Tells, TellsDone}
+use Rattle.told.proofs.Replies.{told_done}
 
 heard_told : (answer : Reply Done) → heard_conversion (conversion_told answer).code (conversion_told answer).values ≡ answer
 unfolding heard_conversion conversion_told
@@ -37,13 +37,10 @@ module _ (kinds tasks operands workspace : List ℕ) (code : ℕ) (values o w : 
   promised : convert_seen code values o w ≡ convert_call outcome → Promised
   promised e = (e, subst (λ (out : ConvertOutcome). Demanded kinds tasks operands workspace out) (sym (heard_is e)) (demanded kinds tasks operands workspace))
 
--- For each case of its answer.
-module _ (kinds tasks operands workspace : List ℕ) (answer : Conversion) (o w : List ℕ)
-    (e : convert_gives answer o w ≡ convert_outcome kinds tasks operands workspace) where
-  pub promised_done : answer ≡ Converted → Promised kinds tasks operands workspace 0 (0 ∷ 0 ∷ []) o w
-  unfolding conversion_reply conversion_told convert_call
-  promised_done h = promised kinds tasks operands workspace 0 (0 ∷ 0 ∷ []) o w (rw (sym e, h))
-
-  pub promised_turned_back : (r : Refusal) → answer ≡ Refused r → Promised kinds tasks operands workspace 2 (r.number ∷ r.position ∷ []) o w
-  unfolding conversion_reply conversion_told convert_call
-  promised_turned_back r h = promised kinds tasks operands workspace 2 (r.number ∷ r.position ∷ []) o w (rw (sym e, h))
+-- So promises what tells its answer.
+module _ (kinds tasks operands workspace : List ℕ) {code : ℕ} {values o w : List ℕ} (answer : Result (Unit {0}) Refusal) where
+  pub promised_told :
+      convert_gives answer o w ≡ convert_outcome kinds tasks operands workspace → Tells 2 TellsDone answer code values
+      → Promised kinds tasks operands workspace code values o w
+  unfolding convert_call
+  promised_told e told = promised kinds tasks operands workspace code values o w (rw (sym e) (cc (told_done _ _ answer told)))

@@ -1,9 +1,9 @@
 -- What a caller of the judge hears is its answer and the number beside it, so that the owner's demands and K2 hold of them. Assumes nothing.
 use Prim.Native.Nat.{ℕ}
-use mathlib.Core.Path.{◌≡◌, refl, ap, ◌∙◌}
-use mathlib.Core.List.{List, [], ◌∷◌}
-use Rattle.trace.specs.declared.Answer.{Answer}
-use Rattle.trace.specs.declared.Answer.TheVariants.{Clean, Race, Refused}
+use mathlib.Core.Path.{◌≡◌, refl, sym, ap, ◌∙◌}
+use mathlib.Core.List.{List}
+use Rattle.std.specs.Prelude.{Result}
+use Rattle.trace.specs.declared.Verdict as answers
 use Rattle.trace.specs.declared.Refusal.{Refusal}
 use Rattle.trace.specs.Outcome.{Reply, says, refused, Verdict, clean, race, Outcome, judge_outcome}
 use Rattle.trace.specs.Demands.{JudgeDemand1, JudgeDemand2, JudgeDemand3, JudgeLinks}
@@ -12,8 +12,8 @@ use Rattle.trace.proofs.Demand2.{judge_demand_2}
 use Rattle.trace.proofs.Demand3.{judge_demand_3}
 use Rattle.chains.proofs.Reported.{judge_links_law}
 use Rattle.judge.specs.Entry.{judge_gives}
-use Rattle.told.specs.Codes.{Told, judge_told, heard, heard_links, judge_call, judge_seen}
-use Rattle.told.proofs.Cases.{told_clean, told_race, told_refused}
+use Rattle.told.specs.Codes.{Told, judge_told, heard, heard_links, judge_call, judge_seen, Tells, TellsVerdict}
+use Rattle.told.proofs.Replies.{told_verdict}
 
 heard_told : (reply : Reply Verdict) (links : ℕ) → heard (judge_told reply links).code (judge_told reply links).values ≡ reply
 unfolding heard judge_told
@@ -73,15 +73,10 @@ module _ (kinds tasks operands workspace first second : List ℕ) (code : ℕ) (
     ),
   )
 
--- For each case of its answer.
-module _ (kinds tasks operands workspace first second : List ℕ) (answer : Answer) (w a₁ a₂ : List ℕ)
-    (e : judge_gives answer w a₁ a₂ ≡ judge_outcome kinds tasks operands workspace first second) where
-  pub promised_clean : (links : ℕ) → answer ≡ Clean links → Promised kinds tasks operands workspace first second 0 (0 ∷ 0 ∷ links ∷ []) w a₁ a₂
-  promised_clean links h = promised kinds tasks operands workspace first second _ _ w a₁ a₂ (told_clean answer w a₁ a₂ _ e links h)
-
-  pub promised_race : (s t links : ℕ) → answer ≡ Race s t links → Promised kinds tasks operands workspace first second 1 (s ∷ t ∷ links ∷ []) w a₁ a₂
-  promised_race s t links h = promised kinds tasks operands workspace first second _ _ w a₁ a₂ (told_race answer w a₁ a₂ _ e s t links h)
-
-  pub promised_refused :
-      (r : Refusal) → answer ≡ Refused r → Promised kinds tasks operands workspace first second 2 (r.number ∷ r.position ∷ 0 ∷ []) w a₁ a₂
-  promised_refused r h = promised kinds tasks operands workspace first second _ _ w a₁ a₂ (told_refused answer w a₁ a₂ _ e r h)
+-- So promises what tells its answer.
+module _ (kinds tasks operands workspace first second : List ℕ) {code : ℕ} {values w a₁ a₂ : List ℕ} (answer : Result answers.Verdict Refusal) where
+  pub promised_told :
+      judge_gives answer w a₁ a₂ ≡ judge_outcome kinds tasks operands workspace first second → Tells 3 TellsVerdict answer code values
+      → Promised kinds tasks operands workspace first second code values w a₁ a₂
+  unfolding judge_gives judge_call
+  promised_told e told = promised kinds tasks operands workspace first second code values w a₁ a₂ (rw (sym e) (cc (told_verdict _ _ answer told)))

@@ -1,5 +1,5 @@
 -- The laws behind the contracts.
-pub mod Cases
+pub mod Replies
 pub mod Heard
 pub mod Orderings
 pub mod Conversions

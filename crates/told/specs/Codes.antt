@@ -1,9 +1,13 @@
 -- What a C caller is told: a code and two values for each thing that document 01 has a call over a trace say, of the judge a third one, and what the call leaves
 -- in the lent buffers. Assumes nothing.
-use Rattle.std.specs.Prelude.{ℕ, zero, suc, Bool, true, false, List, [], ◌∷◌, get_or}
+use Rattle.std.specs.Prelude.{ℕ, zero, suc, ◌≡◌, Bool, true, false, List, [], ◌∷◌, get_or, take, Result, Ok, Err}
+use Rattle.trace.specs.declared.Refusal.{Refusal}
+use Rattle.trace.specs.declared.Verdict as answers
+use Rattle.trace.specs.Answers.{judge_reply, judge_links}
 use Rattle.trace.specs.Outcome.{Reply, says, refused, Verdict, clean, race, Outcome, OrderingOutcome}
 use Rattle.convert.specs.Conversion.{Done, done, ConvertOutcome}
 use Rattle.pairs.specs.Pairs.{Slices, slices, PairsOutcome}
+use Rattle.told.specs.declared.telling.Told as telling
 
 -- The code that is returned, and the values.
 pub record Told : Type 0 where
@@ -122,3 +126,31 @@ pairs_call o = record { said = count_told o.answer; slices = o.slices; workspace
 abbrev pub pairs_seen : ℕ → List ℕ → List ℕ → List ℕ → List ℕ → PairsCall
 pairs_seen code values earlier later workspace =
     record { said = record { code = code; values = values }; slices = slices earlier later; workspace = workspace }
+
+-- ---- how an answer is told
+
+-- What is told by a code and the first n values, as the code holds them.
+abbrev pub first_values : ℕ → telling.Told → Told
+first_values n told = record { code = told.code; values = take n told.values }
+
+-- For each answer that is no refusal,
+abbrev pub TellsVerdict : answers.Verdict → telling.Told → Type 0
+TellsVerdict verdict told = first_values 3 told ≡ judge_told (judge_reply (Ok verdict)) (judge_links (Ok verdict))
+
+abbrev pub TellsOrder : Bool → telling.Told → Type 0
+TellsOrder reaches told = first_values 2 told ≡ ordering_told (says reaches)
+
+abbrev pub TellsDone : Unit {0} → telling.Told → Type 0
+TellsDone converted told = first_values 2 told ≡ conversion_told (says done)
+
+abbrev pub TellsCount : ℕ → telling.Told → Type 0
+TellsCount count told = first_values 2 told ≡ count_told (says count)
+
+-- and for a refusal: no links beside it.
+abbrev pub TellsRefusal : Refusal → telling.Told → Type 0
+TellsRefusal r told = told ≡ record { code = 2; values = r.number ∷ r.position ∷ 0 ∷ [] }
+
+-- A code and n values tell an answer, by what it converts to, or a refusal.
+abbrev pub Tells : {A : Type 0} → ℕ → (A → telling.Told → Type 0) → Result A Refusal → ℕ → List ℕ → Type 0
+Tells n Converts (Ok said) code values = (told : telling.Told) × Converts said told × (record { code = code; values = values } ≡ first_values n told)
+Tells n Converts (Err r) code values = (told : telling.Told) × TellsRefusal r told × (record { code = code; values = values } ≡ first_values n told)

@@ -2,6 +2,8 @@
 // third one, and `specs/Codes.antt` says which. `capi` has them under their names in C.
 #![tactic(auto)]
 
+pub mod telling;
+
 ghost use Rattle.std.specs.Prelude.{◌≡◌};
 ghost use Rattle.trace.specs.Outcome.{judge_outcome, ordering_outcome};
 ghost use Rattle.trace.specs.Demands.{JudgeDemand1, JudgeDemand2, JudgeDemand3, JudgeLinks, OrderingDemand1, OrderingCallDemand};
@@ -14,11 +16,9 @@ ghost use Rattle.told.specs.Codes.{heard_ordering, ordering_call, ordering_seen}
 ghost use Rattle.told.specs.Codes.{heard_conversion, convert_call, convert_seen};
 ghost use Rattle.told.specs.Codes.{heard_count, pairs_call, pairs_seen};
 
-use convert::Conversion;
-use pairs::Listing;
-use trace::{Answer, Ordering};
+use crate::telling::tell;
 
-// What the judge returns.
+// The codes are numbers, and not cases of an enum, since C reads them. What the judge returns.
 pub const CLEAN: u64 = 0;
 
 const RACE: u64 = 1;
@@ -31,8 +31,8 @@ const YES: u64 = 1;
 // What the conversion returns.
 const CONVERTED: u64 = 0;
 
-// What the call for pairs returns.
-const LISTED: u64 = 0;
+// What a call returns that says how many there are, of pairs or of a trace's events.
+const COUNTED: u64 = 0;
 
 // What all return where the trace is turned back.
 pub const REFUSED: u64 = 2;
@@ -61,20 +61,7 @@ pub fn judge(
         (heard result values.new) (heard_links values.new) }
 {
     let answer = judge::judge(kinds, tasks, operands, ws, first, second);
-    match answer {
-        Answer::Clean(links) => {
-            *values = [0, 0, links as u64];
-            CLEAN
-        }
-        Answer::Race(s, t, links) => {
-            *values = [s as u64, t as u64, links as u64];
-            RACE
-        }
-        Answer::Refused(refusal) => {
-            *values = [refusal.number as u64, refusal.position as u64, 0];
-            REFUSED
-        }
-    }
+    tell(answer, values)
 }
 
 // The ordering call: does event p reach event q?
@@ -95,20 +82,7 @@ pub fn ordering(
         ws.old p q (heard_ordering result values.new) }
 {
     let answer = ordering::ordering(kinds, tasks, operands, ws, p, q);
-    match answer {
-        Ordering::No => {
-            *values = [0, 0];
-            NO
-        }
-        Ordering::Yes => {
-            *values = [0, 0];
-            YES
-        }
-        Ordering::Refused(refusal) => {
-            *values = [refusal.number as u64, refusal.position as u64];
-            REFUSED
-        }
-    }
+    tell(answer, values)
 }
 
 // The conversion of a stored trace.
@@ -126,17 +100,8 @@ pub fn convert(
     ensures halts { ConvertSets kinds.now tasks.now operands.old ws.old operands.new }
     ensures verdict { SameVerdicts kinds.now tasks.now operands.old ws.old operands.new }
 {
-    let conversion = convert::convert(kinds, tasks, operands, ws);
-    match conversion {
-        Conversion::Converted => {
-            *values = [0, 0];
-            CONVERTED
-        }
-        Conversion::Refused(refusal) => {
-            *values = [refusal.number as u64, refusal.position as u64];
-            REFUSED
-        }
-    }
+    let answer = convert::convert(kinds, tasks, operands, ws);
+    tell(answer, values)
 }
 
 // Every close pair.
@@ -159,15 +124,6 @@ pub fn pairs(
         (slices earlier.old later.old) (heard_count result values.new)
         (slices earlier.new later.new) }
 {
-    let listing = pairs::list(kinds, tasks, operands, ws, earlier, later);
-    match listing {
-        Listing::Listed(count) => {
-            *values = [count as u64, 0];
-            LISTED
-        }
-        Listing::Refused(refusal) => {
-            *values = [refusal.number as u64, refusal.position as u64];
-            REFUSED
-        }
-    }
+    let answer = pairs::list(kinds, tasks, operands, ws, earlier, later);
+    tell(answer, values)
 }

@@ -1,4 +1,4 @@
 -- The laws behind the contracts.
-pub mod Copies
+pub mod Seen
 pub mod Translations
 pub mod Plans

@@ -1,9 +1,12 @@
 -- What `translate` tells and leaves is what the text and the lent slices ask for: where a slice is short (`told_short`), where the text is
--- refused (`told_refusal`), and where its events are copied from the spare slices (`told_events`). Assumes nothing.
+-- refused (`refused_kept`, `told_refusal`), and where its events are copied from the spare slices (`copied_translated`, `told_events`). Assumes nothing.
 use Prim.Native.Nat.{ℕ, ◌<◌, ◌≤◌}
 use native.Mathlib.Nat.{zero-add}
 use native.Mathlib.Omega.{arith}
-use mathlib.Core.Path.{◌≡◌, sym, ap, ◌∙◌}
+use mathlib.Core.Path.{◌≡◌, refl, sym, ap, ◌∙◌}
+use Rattle.std.specs.Prelude.{Result, Ok, Err}
+use Rattle.trace.specs.declared.Refusal.{Refusal}
+use Rattle.trace.specs.Answers.{reply, translated_of}
 use mathlib.Core.Bool.{Bool, true, false, ◌||◌, true≢false}
 use mathlib.Core.Logic.{inl, inr}
 use mathlib.Core.List.{List, [], ◌∷◌, ◌++◌, map}
@@ -20,7 +23,8 @@ use Rattle.form.specs.Translation.{translation, translated}
 use Rattle.form.proofs.Accepted.{translation_at_most}
 use Rattle.form.proofs.TextForm.{translated_decided, decided_by_unique}
 use Rattle.text.proofs.Stored.{Stored}
-use Rattle.told.specs.Codes.{count_told}
+use Rattle.told.specs.Codes.{Tells, TellsCount, count_told}
+use Rattle.told_texts.proofs.Seen.{seen_translation}
 use Rattle.told_texts.specs.Codes.{translation_call, is_short, translate_call, translate_seen, TranslateCall, TranslateTells, short, decides}
 use Rattle.told_texts.specs.Codes.{copied}
 
@@ -42,6 +46,15 @@ module _ (text : List ℕ) (b : Slices) where
   pub told_short : is_short b ≡ true → translate_seen 3 (0 ∷ 0 ∷ []) b ≡ translate_call text b
   unfolding translate_call
   told_short s = rw s
+
+  pub told_answer : is_short b ≡ false → {code : ℕ} {values : List ℕ} (answer : Result ℕ Refusal) {after : Slices}
+      → translated_of answer after ≡ translated text b → Tells 2 TellsCount answer code values → translate_seen code values after ≡ translate_call text b
+  unfolding translate_call
+  told_answer s answer e told = rw s (seen_translation answer e told)
+
+  pub refused_kept : (r : Refusal) → translation text ≡ refused r.number r.position → translated_of (Err r) b ≡ translated text b
+  unfolding reply translated
+  refused_kept r e = rw e refl
 
   pub told_refusal : is_short b ≡ false → (number position : ℕ) → translation text ≡ refused number position
       → translate_seen 2 (number ∷ position ∷ []) b ≡ translate_call text b
@@ -94,6 +107,16 @@ all_copied b es kinds tasks operands count n k t o after =
     let tasks-same = part_copied (λ e. e.task) es tasks b.tasks count n t ∙ sym after.tasks in
     let operands_same = part_copied (λ e. e.operand) es operands b.operands count n o ∙ sym after.operands in
     rw (kinds-same, tasks-same, operands_same)
+
+pub copied_translated :
+    (text : List ℕ) (b : Slices) → is_short b ≡ false → {kinds tasks operands : List ℕ} {count : ℕ} (h : Stored text kinds tasks operands count)
+    → {after : Slices} → after ≡ copied count (slices kinds tasks operands) b → translated_of (Ok count) after ≡ translated text b
+unfolding reply translated
+copied_translated text b s {kinds} {tasks} {operands} {count} h e =
+    let fits : Room b (length h.events) = rw (← h.counted) (lent_room b s h) in
+    let same =
+    all_copied b h.events kinds tasks operands count h.counted h.kinds_are h.tasks_are h.operands_are (slices_hold b h.events fits) in
+    rw (h.accepted, e ∙ same, h.counted)
 
 pub told_events : (text : List ℕ) (b : Slices) → is_short b ≡ false → {kinds tasks operands : List ℕ} {count : ℕ} (h : Stored text kinds tasks operands count)
     → (after : Slices) → after ≡ copied count (slices kinds tasks operands) b

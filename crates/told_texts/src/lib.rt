@@ -10,16 +10,12 @@ ghost use Rattle.plan.specs.Decided.{DecidedBy, TracesPlan};
 ghost use Rattle.plan.specs.Tracing.{planned};
 ghost use Rattle.told_texts.specs.Codes.{heard_trace, translation_call, translate_call, translate_seen, TranslateTells};
 
-use text::limits::MAX_TEXT_EVENTS;
-use told::REFUSED;
-use trace::Translation;
+use told::telling::tell;
 
-// What a translation returns where a trace is written; and that of a text, where a slice has too few cells for every text.
-const TRANSLATED: u64 = 0;
-
+// What the translation of a text returns where a slice has too few cells for every text. The code is a number, since C reads it.
 const SHORT: u64 = 3;
 
-// Text to a trace. The text is translated to spare slices first, since `translate` takes them of one size, and the lent ones may have more cells.
+// Text to a trace.
 pub fn translate(
     text: &[u8],
     kinds: &mut [u8],
@@ -36,34 +32,8 @@ pub fn translate(
         *values = [0, 0];
         return SHORT;
     }
-    let mut spare_kinds = [0u8; MAX_TEXT_EVENTS];
-    let mut spare_tasks = [0u16; MAX_TEXT_EVENTS];
-    let mut spare_operands = [0u16; MAX_TEXT_EVENTS];
-    let translation = text::translate(
-        text,
-        &mut spare_kinds,
-        &mut spare_tasks,
-        &mut spare_operands,
-    );
-    match translation {
-        Translation::Events(count) => {
-            translation::copy_events(
-                &spare_kinds,
-                &spare_tasks,
-                &spare_operands,
-                kinds,
-                tasks,
-                operands,
-                count,
-            );
-            *values = [count as u64, 0];
-            TRANSLATED
-        }
-        Translation::Refused(refusal) => {
-            *values = [refusal.number as u64, refusal.position as u64];
-            REFUSED
-        }
-    }
+    let answer = translation::translate(text, kinds, tasks, operands);
+    tell(answer, values)
 }
 
 // A plan to a trace.
@@ -81,15 +51,6 @@ pub fn plan(
     ensures trace { TracesPlan text.now
         (heard_trace result values.new (slices kinds.new tasks.new operands.new)) }
 {
-    let translation = plan_reader::translate(text, kinds, tasks, operands);
-    match translation {
-        Translation::Events(count) => {
-            *values = [count as u64, 0];
-            TRANSLATED
-        }
-        Translation::Refused(refusal) => {
-            *values = [refusal.number as u64, refusal.position as u64];
-            REFUSED
-        }
-    }
+    let answer = plan_reader::translate(text, kinds, tasks, operands);
+    tell(answer, values)
 }

@@ -7,6 +7,7 @@ use native.Mathlib.Omega.{arith}
 use lib.ListN.{length}
 use borrow.Author.Tests.{not-false, ltb-false}
 use Rattle.trace.specs.Trace.{MAX_EVENTS, WORKSPACE_CELLS}
+use Rattle.trace.specs.declared.Trace.{Trace}
 use Rattle.trace.specs.Line.{Checked, passes, fails}
 use Rattle.trace.specs.Outcome.{Reply, says, refused, Verdict, sizes, order_room, judge_checked, judge_outcome}
 use Rattle.trace.proofs.Tests.{test_eq, test_lt, test_and, test_or, tests_fails}
@@ -19,6 +20,10 @@ pub record Sized (kinds tasks operands workspace : List ℕ) (n : ℕ) : Type 0 
   pub of_operands : length operands ≡ n
   pub few : n ≤ MAX_EVENTS
   pub room : WORKSPACE_CELLS + n ≤ length workspace
+
+-- The same of a trace as the code holds it, with all its events.
+abbrev pub SizedTrace : Trace → List ℕ → Type 0
+SizedTrace held workspace = Sized held.kinds.now held.tasks.now held.operands.now workspace (length held.kinds.now)
 
 -- So does row 4.
 pub record Roomy (first second : List ℕ) (n : ℕ) : Type 0 where

@@ -4,6 +4,7 @@
 use Prim.Native.Nat.{ℕ, zero, suc, ◌+◌}
 use mathlib.Core.Path.{◌≡◌, refl, ap}
 use mathlib.Core.Bool.{Bool, true, false}
+use Rattle.std.specs.Prelude.{Ok, Err}
 use mathlib.Core.List.{List, [], ◌∷◌, ◌++◌, map}
 use native.Mathlib.Omega.{arith}
 use lib.Dec.{leb}
@@ -17,8 +18,7 @@ use Rattle.trace.specs.Graph.{is_passed, graph_events}
 use Rattle.trace.specs.Search.{count_below, largest_below}
 use Rattle.trace.specs.Joins.{alone, top_within, links_within, top_of, links_of, tree_size, hung, united, joined_by, joins_after, longest_after}
 use Rattle.trace.specs.Search.{some_below, least_below, next?, child?, join?, arc?, chain?, reach?, conflict?, race?}
-use Rattle.trace.specs.declared.Answer.TheVariants.{Clean, Race, Refused}
-use Rattle.trace.specs.declared.Ordering.{Ordering}
+use Rattle.trace.specs.declared.Verdict.TheVariants.{Clean, Race}
 use Rattle.trace.specs.Outcome.{Reply, says, refused, Verdict, clean, race, or_else, race_with, partner, failure_at, first_failure, at_end, or_at_end, judgement}
 use Rattle.trace.specs.Outcome.{in_d?, sizes, order_room, cleared, looked_at, links_beside, first_order, second_order, judge_checked, judge_outcome}
 use Rattle.trace.specs.Outcome.{OrderingOutcome, ordering_said, ordering, ordering_checked, ordering_outcome}
@@ -197,23 +197,23 @@ broken_as_expected = ordered unknown 1 1 _ refl refl
 
 -- What each case of the code's answers says: "clean", "race s t", "refused number position"; "yes", "no", "such a refusal".
 pub judge_replies :
-    ((links : ℕ) → judge_reply (Clean links) ≡ says clean)
-    × ((s t links : ℕ) → judge_reply (Race s t links) ≡ says (race s t))
-    × ((number position : ℕ) → judge_reply (Refused (record { number = number; position = position })) ≡ refused number position)
+    ((links : ℕ) → judge_reply (Ok (Clean links)) ≡ says clean)
+    × ((s t links : ℕ) → judge_reply (Ok (Race s t links)) ≡ says (race s t))
+    × ((number position : ℕ) → judge_reply (Err (record { number = number; position = position })) ≡ refused number position)
 unfolding judge_reply
 judge_replies = (λ links. refl, λ s t links. refl, λ number position. refl)
 
 -- And the number beside it.
 pub judge_links_law :
-    ((links : ℕ) → judge_links (Clean links) ≡ links)
-    × ((s t links : ℕ) → judge_links (Race s t links) ≡ links)
-    × ((number position : ℕ) → judge_links (Refused (record { number = number; position = position })) ≡ 0)
+    ((links : ℕ) → judge_links (Ok (Clean links)) ≡ links)
+    × ((s t links : ℕ) → judge_links (Ok (Race s t links)) ≡ links)
+    × ((number position : ℕ) → judge_links (Err (record { number = number; position = position })) ≡ 0)
 unfolding judge_links
 judge_links_law = (λ links. refl, λ s t links. refl, λ number position. refl)
 
 pub ordering_replies :
-    (ordering_reply Ordering.Yes ≡ says true)
-    × (ordering_reply Ordering.No ≡ says false)
-    × ((number position : ℕ) → ordering_reply (Ordering.Refused (record { number = number; position = position })) ≡ refused number position)
+    (ordering_reply (Ok true) ≡ says true)
+    × (ordering_reply (Ok false) ≡ says false)
+    × ((number position : ℕ) → ordering_reply (Err (record { number = number; position = position })) ≡ refused number position)
 unfolding ordering_reply
 ordering_replies = (refl, refl, λ number position. refl)

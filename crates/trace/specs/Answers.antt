@@ -1,36 +1,34 @@
 -- Document 01's number and values for each case of the answers that the code gives. Every promise about an answer goes through these. Assumes nothing.
-use Rattle.std.specs.Prelude.{ℕ, Bool, true, false}
-use Rattle.trace.specs.declared.Answer.{Answer}
-use Rattle.trace.specs.declared.Answer.TheVariants.{Clean, Race, Refused}
-use Rattle.trace.specs.declared.Ordering.{Ordering}
-use Rattle.trace.specs.declared.Translation.{Translation}
-use Rattle.trace.specs.declared.Translation.TheVariants as translation
+use Rattle.std.specs.Prelude.{ℕ, Bool, true, false, Result, Ok, Err}
+use Rattle.trace.specs.declared.Refusal.{Refusal}
+use Rattle.trace.specs.declared.Verdict as code
+use Rattle.trace.specs.declared.Verdict.TheVariants.{Clean, Race}
 use Rattle.trace.specs.Outcome.{Reply, says, refused, Verdict, clean, race}
 use Rattle.trace.specs.Slices.{Slices, Translated}
 
+-- What a call says, or refused number position.
+unfoldable pub reply : {A : Type 0} → Result A Refusal → Reply A
+reply (Ok answer) = says answer
+reply (Err r) = refused r.number r.position
+
 -- The judge: clean, race s t, or refused number position.
-unfoldable pub judge_reply : Answer → Reply Verdict
-judge_reply (Clean links) = says clean
-judge_reply (Race s t links) = says (race s t)
-judge_reply (Refused r) = refused r.number r.position
+unfoldable pub judge_reply : Result code.Verdict Refusal → Reply Verdict
+judge_reply (Ok (Clean links)) = says clean
+judge_reply (Ok (Race s t links)) = says (race s t)
+judge_reply (Err r) = refused r.number r.position
 
 -- The number of links beside it: "with a refusal, 0".
-unfoldable pub judge_links : Answer → ℕ
-judge_links (Clean links) = links
-judge_links (Race s t links) = links
-judge_links (Refused r) = 0
+unfoldable pub judge_links : Result code.Verdict Refusal → ℕ
+judge_links (Ok (Clean links)) = links
+judge_links (Ok (Race s t links)) = links
+judge_links (Err r) = 0
 
 -- The ordering call: yes, no, or refused number position.
-unfoldable pub ordering_reply : Ordering → Reply Bool
-ordering_reply Ordering.Yes = says true
-ordering_reply Ordering.No = says false
-ordering_reply (Ordering.Refused r) = refused r.number r.position
+unfoldable pub ordering_reply : Result Bool Refusal → Reply Bool
+ordering_reply (Ok true) = says true
+ordering_reply (Ok false) = says false
+ordering_reply (Err r) = refused r.number r.position
 
--- A call that writes a trace: the number of events, or refused number position.
-unfoldable pub translation_reply : Translation → Reply ℕ
-translation_reply (translation.Events count) = says count
-translation_reply (translation.Refused r) = refused r.number r.position
-
--- Its answer with the slices that it leaves.
-abbrev pub translated_of : Translation → Slices → Translated
-translated_of r b = record { answer = translation_reply r; slices = b }
+-- The answer of a call that writes a trace, the number of its events or refused number position, with the slices that it leaves.
+abbrev pub translated_of : Result ℕ Refusal → Slices → Translated
+translated_of r b = record { answer = reply r; slices = b }

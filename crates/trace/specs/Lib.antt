@@ -1,6 +1,7 @@
 -- What a reader must believe, in the order in which to read it.
 pub mod Trace
 pub mod Lent
+pub mod Held
 pub mod Line
 pub mod Graph
 pub mod Race
@@ -11,5 +12,6 @@ pub mod Outcome
 pub mod Demands
 pub mod Slices
 pub mod Answers
+pub mod Rows
 pub mod Runs
 pub mod Refusals

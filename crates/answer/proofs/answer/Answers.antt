@@ -8,19 +8,19 @@ use Rattle.answer.proofs.answer.Goals as goal
 
 pub slice_bounds-kinds-end : goal.slice_bounds-kinds-end
 slice_bounds-kinds-end c =
-    (stored _ _ fresh_sized _ _ _ _ c.translate-translation.ensures.outcome _ c.in-Events.is).room.kinds
+    (stored _ _ fresh_sized _ _ _ _ c.translate-translation.ensures.outcome _ c.in-Ok.is).room.kinds
 
 pub slice_bounds-tasks-end : goal.slice_bounds-tasks-end
 slice_bounds-tasks-end c =
-    (stored _ _ fresh_sized _ _ _ _ c.translate-translation.ensures.outcome _ c.in-Events.is).room.tasks
+    (stored _ _ fresh_sized _ _ _ _ c.translate-translation.ensures.outcome _ c.in-Ok.is).room.tasks
 
 pub slice_bounds-operands-end : goal.slice_bounds-operands-end
 slice_bounds-operands-end c =
-    (stored _ _ fresh_sized _ _ _ _ c.translate-translation.ensures.outcome _ c.in-Events.is).room.operands
+    (stored _ _ fresh_sized _ _ _ _ c.translate-translation.ensures.outcome _ c.in-Ok.is).room.operands
 
-pub returns-in-Events : goal.returns-in-Events
-returns-in-Events c =
-    let held = stored _ _ fresh_sized _ _ _ _ c.translate-translation.ensures.outcome _ c.in-Events.is in
+pub returns-in-Ok : goal.returns-in-Ok
+returns-in-Ok c =
+    let held = stored _ _ fresh_sized _ _ _ _ c.translate-translation.ensures.outcome _ c.in-Ok.is in
     let e = answer_events held _ _ c.answer_events.ensures.answer in
     record {
       answer = e;
@@ -29,20 +29,20 @@ returns-in-Events c =
       chains = events_links held c.answer_events.ensures.chains;
     }
 
-pub returns-in-Refused : goal.returns-in-Refused
-returns-in-Refused c =
-    let refused = said_refusal _ _ fresh_sized _ _ _ _ c.translate-translation.ensures.outcome _ c.in-Refused.is in
+pub returns-in-Err : goal.returns-in-Err
+returns-in-Err c =
+    let refused = said_refusal _ _ fresh_sized _ _ _ _ c.translate-translation.ensures.outcome _ c.in-Err.is in
     let e = answer_refusal _ refused _ _ c.answer_refusal.ensures in
     record { answer = e; within = answered_within _ _ _ _ e; form = answered_decided _ _ _ e; chains = refusal_links _ refused }
 
 pub slice_bounds-answer_events-end : goal.slice_bounds-answer_events-end
 slice_bounds-answer_events-end c =
-    sym (length-take-le _ _ (stored _ _ fresh_sized _ _ _ _ c.translate-translation.ensures.outcome _ c.in-Events.is).room.kinds)
+    sym (length-take-le _ _ (stored _ _ fresh_sized _ _ _ _ c.translate-translation.ensures.outcome _ c.in-Ok.is).room.kinds)
 
-pub slice_bounds-answer_events-end-in-Events : goal.slice_bounds-answer_events-end-in-Events
-slice_bounds-answer_events-end-in-Events c =
-    sym (length-take-le _ _ (stored _ _ fresh_sized _ _ _ _ c.translate-translation.ensures.outcome _ c.in-Events.is).room.tasks)
+pub slice_bounds-answer_events-end-in-Ok : goal.slice_bounds-answer_events-end-in-Ok
+slice_bounds-answer_events-end-in-Ok c =
+    sym (length-take-le _ _ (stored _ _ fresh_sized _ _ _ _ c.translate-translation.ensures.outcome _ c.in-Ok.is).room.tasks)
 
-pub slice_bounds-answer_events-end-in-Events-2 : goal.slice_bounds-answer_events-end-in-Events-2
-slice_bounds-answer_events-end-in-Events-2 c =
-    sym (length-take-le _ _ (stored _ _ fresh_sized _ _ _ _ c.translate-translation.ensures.outcome _ c.in-Events.is).room.operands)
+pub slice_bounds-answer_events-end-in-Ok-2 : goal.slice_bounds-answer_events-end-in-Ok-2
+slice_bounds-answer_events-end-in-Ok-2 c =
+    sym (length-take-le _ _ (stored _ _ fresh_sized _ _ _ _ c.translate-translation.ensures.outcome _ c.in-Ok.is).room.operands)

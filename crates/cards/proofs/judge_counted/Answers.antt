@@ -5,7 +5,8 @@ use Rattle.cards.proofs.judge_counted.Goals as goal
 pub returns-then-has_few : goal.returns-then-has_few
 returns-then-has_few c =
     let a = c.args in
-    counted_few a.kinds.now a.tasks.now a.operands.now a.ws.now a.first.now a.second.now a.records _ c.has_few.ensures c.if-has_few.true
+    rw c.number.ensures
+    (counted_few a.kinds.now a.tasks.now a.operands.now a.ws.now a.first.now a.second.now a.records _ c.has_few.ensures c.if-has_few.true)
 
 pub tally-requires : goal.tally-requires
 tally-requires c =

@@ -5,8 +5,8 @@ use Rattle.forest.specs.Forest.{parents}
 use Rattle.forest.proofs.Climb.{Climbing}
 use Rattle.forest.proofs.find.Given as goal
 
-abbrev pub invariant-loop-link : goal.invariant-loop-link
-invariant-loop-link l = Climbing l.ws l.task l.at l.links l.link
+abbrev pub invariant-loop-parent : goal.invariant-loop-parent
+invariant-loop-parent l = Climbing l.ws l.task l.at l.links
 
-abbrev pub decreases-loop-link : goal.decreases-loop-link
-decreases-loop-link l = links_of (parents l.ws) l.at
+abbrev pub decreases-loop-parent : goal.decreases-loop-parent
+decreases-loop-parent l = links_of (parents l.ws) l.at

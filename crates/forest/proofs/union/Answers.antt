@@ -1,22 +1,13 @@
 -- `forest::union` meets its contract: the test of the sizes is that of `united_in`. Assumes nothing.
 use Prim.Native.Nat.{ℕ}
-use mathlib.Core.Path.{◌≡◌, sym}
+use mathlib.Core.Path.{◌≡◌}
 use mathlib.Core.Bool.{true, false}
 use mathlib.Core.List.{List}
 use native.Mathlib.Omega.{arith}
-use borrow.Author.Rules.{rules}
 use borrow.Author.Tests.{ltb-true, ltb-false}
 use Rattle.trace.proofs.Tests.{by_test}
-use Rattle.forest.specs.Forest.{Hangable, hung_in, smaller_in, united_in, Unitable}
-use Rattle.forest.proofs.Cells.{hangable}
+use Rattle.forest.specs.Forest.{hung_in, smaller_in, united_in, Unitable}
 use Rattle.forest.proofs.union.Goals as goal
-
--- Either top can be hung under the other.
-joiner-hangs : {c : List ℕ} {a b : ℕ} → Unitable c a b → Hangable c a b
-joiner-hangs u = hangable u.forest_in u.joiner u.joined u.distinct
-
-joined-hangs : {c : List ℕ} {a b : ℕ} → Unitable c a b → Hangable c b a
-joined-hangs u = hangable u.forest_in u.joined u.joiner (λ e. u.distinct (sym e))
 
 -- The joined task's top stays unless the joiner's tree is not the smaller one, and the joiner's unless it is.
 joined_stays : {c exit : List ℕ} {a b : ℕ} → Unitable c a b → exit ≡ hung_in c a b → (smaller_in c a b ≡ false → ⊥) → exit ≡ united_in c a b
@@ -34,9 +25,3 @@ returns-then-cell c = joined_stays c.requires c.hang.ensures (λ s. omega (arith
 pub returns : goal.returns
 unfolding smaller_in
 returns c = joiner_stays c.requires c.hang-2.ensures (λ s. omega (arith, ltb-true))
-
-pub hang-requires : goal.hang-requires
-hang-requires c = search (rules, joiner-hangs)
-
-pub hang-requires-2 : goal.hang-requires-2
-hang-requires-2 c = search (rules, joined-hangs)

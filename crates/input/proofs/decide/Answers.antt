@@ -2,8 +2,8 @@
 use Rattle.input.proofs.Deciding.{decided_failed, decided_end, decided_again, decided_full}
 use Rattle.input.proofs.decide.Goals as goal
 
-pub returns-then-got-lt0 : goal.returns-then-got-lt0
-returns-then-got-lt0 c = search decided_failed
+pub returns-in_default : goal.returns-in_default
+returns-in_default c = search decided_failed
 
 pub returns-then-more-eq0 : goal.returns-then-more-eq0
 returns-then-more-eq0 c = search decided_end

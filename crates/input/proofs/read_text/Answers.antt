@@ -9,14 +9,14 @@ loop-more-init g c = (begins _, search rules)
 pub loop-more-smaller : goal.loop-more-smaller
 loop-more-smaller g c =
     let once = c.read_more.ensures in
-    let turn = turned _ _ _ _ c.loop-more.invariant.0 _ _ once c.in-Again.is in
+    let turn = turned _ _ _ _ c.loop-more.invariant.0 _ _ once c.in-Continue.is in
     omega (arith, turn, once.read.long)
 
 pub loop-more-preserved : goal.loop-more-preserved
 loop-more-preserved g c =
     let once = c.read_more.ensures in
-    let turn = turned _ _ _ _ c.loop-more.invariant.0 _ _ once c.in-Again.is in
+    let turn = turned _ _ _ _ c.loop-more.invariant.0 _ _ once c.in-Continue.is in
     (turn.0, once.read.long ∙ c.loop-more.invariant.1)
 
-pub returns-in-Ended : goal.returns-in-Ended
-returns-in-Ended g c = turned _ _ _ _ c.loop-more.invariant.0 _ _ c.read_more.ensures c.in-Ended.is
+pub returns-in-Break : goal.returns-in-Break
+returns-in-Break g c = turned _ _ _ _ c.loop-more.invariant.0 _ _ c.read_more.ensures c.in-Break.is

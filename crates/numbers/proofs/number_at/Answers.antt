@@ -1,22 +1,17 @@
 -- `numbers::number_at` meets its contract: the loop takes digits as long as the number goes (`Scans`). Assumes nothing.
-use borrow.Author.Rules.{rules}
-use Rattle.numbers.proofs.Scans.{number_ends, number_other, number_stops, number_whole, counting_begins, counting_more}
+use Rattle.std.proofs.Common.{arith}
+use Rattle.numbers.proofs.Scans.{number_stops, number_whole, counting_begins}
 use Rattle.numbers.proofs.number_at.Goals as goal
 
-pub returns-then-text-at : goal.returns-then-text-at
-returns-then-text-at c = search number_ends
+pub loop-end-init : goal.loop-end-init
+loop-end-init c = counting_begins _ _ _ _ (omega (arith, c.in_ok-first.ensures.lookup.3.0))
 
-pub returns-in_default : goal.returns-in_default
-returns-in_default c = search number_other
+pub returns-in_default-clause-read : goal.returns-in_default-clause-read
+returns-in_default-clause-read c =
+    let l = c.in_ok-first.ensures.lookup in
+    number_stops _ _ _ l.3.0 _ _ (l.3.1 0) c.in_ok-value.ensures _ _ c.loop-end.invariant c.loop-end-test.true c.in_default.ensures
 
-pub loop-at-init : goal.loop-at-init
-loop-at-init c = search (rules, counting_begins)
-
-pub returns-in_default-extend : goal.returns-in_default-extend
-returns-in_default-extend c = search number_stops
-
-pub loop-at-preserved : goal.loop-at-preserved
-loop-at-preserved c = search counting_more
-
-pub returns : goal.returns
-returns c = search number_whole
+pub returns-clause-read : goal.returns-clause-read
+returns-clause-read c =
+    let l = c.in_ok-first.ensures.lookup in
+    number_whole _ _ _ l.3.0 _ _ (l.3.1 0) c.in_ok-value.ensures _ _ c.loop-end.invariant c.loop-end-test.false

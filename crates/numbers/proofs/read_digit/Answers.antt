@@ -1,16 +1,17 @@
--- `numbers::read_digit` meets its contract: each `return` is a row of `digit`. Assumes nothing.
+-- `numbers::read_digit` meets its contract: each arm is a row of `digit`. Assumes nothing.
+use Rattle.std.proofs.Common.{arith}
 use borrow.Author.Tests.{lt-ltb, le-ltb}
 use Rattle.numbers.specs.Reading.{digit}
 use Rattle.numbers.proofs.read_digit.Goals as goal
 
-pub returns-then-byte-lt48 : goal.returns-then-byte-lt48
+pub returns-in-48-to-57 : goal.returns-in-48-to-57
 unfolding digit
-returns-then-byte-lt48 c = simp (lt-ltb _ _ c.if-byte-lt48.true)
+returns-in-48-to-57 c = rw (le-ltb c.args.byte 48 (omega arith), le-ltb 57 c.args.byte (omega arith), c.from.ensures)
 
-pub returns-then-byte-gt57 : goal.returns-then-byte-gt57
+pub returns-in_default : goal.returns-in_default
 unfolding digit
-returns-then-byte-gt57 c = simp (le-ltb _ _ c.if-byte-lt48.false, lt-ltb _ _ c.if-byte-gt57.true)
+returns-in_default c = rw (lt-ltb c.args.byte 48 (omega arith))
 
-pub returns : goal.returns
+pub returns-in_default-2 : goal.returns-in_default-2
 unfolding digit
-returns c = simp (le-ltb _ _ c.if-byte-lt48.false, le-ltb _ _ c.if-byte-gt57.false)
+returns-in_default-2 c = rw (le-ltb c.args.byte 48 (omega arith), lt-ltb 57 c.args.byte (omega arith))

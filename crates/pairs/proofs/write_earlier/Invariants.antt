@@ -1,5 +1,4 @@
--- `pairs::write_earlier` meets its contract: before each turn the marked events up to s are written. In each context `at` is the loop's head and `entry` what the
--- function is given. Assumes nothing.
+-- `pairs::write_earlier` meets its contract: before each turn the marked events up to s are written. Assumes nothing.
 use Prim.Native.Nat.{◌-◌}
 use Rattle.pairs.specs.Close.{is_marked}
 use Rattle.pairs.proofs.Storing.{Writing}

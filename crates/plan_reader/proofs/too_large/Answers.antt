@@ -1,18 +1,13 @@
--- `plan::too_large` meets its contract: each `return` is a row of `is_too_large`. Assumes nothing.
-use Rattle.plan_reader.proofs.Planning.{over_tasks, over_events, over_kinds, over_slices, over_operands}
+-- `too_large` meets its contract. Assumes nothing.
+use Rattle.std.proofs.Common.{arith}
+use Rattle.std.proofs.lemmas.Bool.Decides.{nat_tests}
+use Rattle.plan.specs.Tracing.{is_too_large}
 use Rattle.plan_reader.proofs.too_large.Goals as goal
 
-pub returns-then-forks : goal.returns-then-forks
-returns-then-forks c = search over_tasks
+pub returns-then-size : goal.returns-then-size
+unfolding is_too_large
+returns-then-size c = grind (arith, nat_tests)
 
-pub returns-then-events-gt-MAX_EVENTS : goal.returns-then-events-gt-MAX_EVENTS
-returns-then-events-gt-MAX_EVENTS c = search over_events
-
-pub returns-then-kinds-events : goal.returns-then-kinds-events
-returns-then-kinds-events c = search over_kinds
-
-pub returns-then-tasks-events : goal.returns-then-tasks-events
-returns-then-tasks-events c = search over_slices
-
-pub returns : goal.returns
-returns c = search over_operands
+pub returns-else-size : goal.returns-else-size
+unfolding is_too_large
+returns-else-size c = grind (arith, nat_tests)

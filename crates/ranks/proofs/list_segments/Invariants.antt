@@ -1,12 +1,8 @@
--- `ranks::list_segments` meets its contract. Assumes nothing.
-use Prim.Native.Nat.{◌-◌}
+-- `ranks::list_segments` meets its contract: before each turn the cells are those before the event that follows the stops that were taken. Assumes nothing.
 use lib.ListN.{length}
-use Rattle.trace.specs.Trace.{trace_of}
+use Rattle.trace.specs.Held.{held_trace}
 use Rattle.ranks.proofs.Listing.{Listing}
 use Rattle.ranks.proofs.list_segments.Given as goal
 
 abbrev pub invariant-loop-k : goal.invariant-loop-k
-invariant-loop-k l = Listing (trace_of l.kinds l.tasks l.operands) (length l.kinds) l.initial.ws l.ws l.line l.current l.k
-
-abbrev pub decreases-loop-k : goal.decreases-loop-k
-decreases-loop-k l = l.count - l.k
+invariant-loop-k l = Listing (held_trace l.trace) (length l.trace.kinds.now) l.initial.ws l.ws l.front.line l.front.segment l.k

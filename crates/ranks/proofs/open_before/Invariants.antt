@@ -1,10 +1,6 @@
--- `ranks::open_before` meets its contract. Assumes nothing.
-use Prim.Native.Nat.{◌-◌}
+-- `ranks::open_before` meets its contract: before each turn the moves so far are counted. Assumes nothing.
 use Rattle.ranks.proofs.Counting.{Counting}
 use Rattle.ranks.proofs.open_before.Given as goal
 
-abbrev pub invariant-loop-i : goal.invariant-loop-i
-invariant-loop-i l = Counting l.kinds l.p l.current l.i
-
-abbrev pub decreases-loop-i : goal.decreases-loop-i
-decreases-loop-i l = l.p - l.i
+abbrev pub invariant-loop-kind : goal.invariant-loop-kind
+invariant-loop-kind l = Counting l.fn.kinds l.fn.p l.current l.kind-index

@@ -33,9 +33,9 @@ returns c =
     let rest = stops_rest c.collect-stops.ensures in
     let walk = c.number.ensures in
     record {
-      rank_says = ranked args.kinds.now args.tasks.now args.operands.now rest says c.requires.room refl walk;
+      rank_says = ranked args.trace.kinds.now args.trace.tasks.now args.trace.operands.now rest says c.requires.room refl walk;
       leading_le_events = c.leading-leading.ensures;
       stops_in =
-          stops_stand args.kinds.now args.tasks.now args.operands.now rest says c.requires.room refl walk
+          stops_stand args.trace.kinds.now args.trace.tasks.now args.trace.operands.now rest says c.requires.room refl walk
           (stops_in _ c.collect-stops.ensures);
     }

@@ -2,8 +2,8 @@
 use Rattle.report.proofs.ReportingPartner.{other_location, no_conflict, by_number}
 use Rattle.report.proofs.is_partner.Goals as goal
 
-pub returns-then-operands-p : goal.returns-then-operands-p
-returns-then-operands-p c = search other_location
+pub returns-then-trace-p : goal.returns-then-trace-p
+returns-then-trace-p c = search other_location
 
 pub returns-then-not-conflicts : goal.returns-then-not-conflicts
 returns-then-not-conflicts c = search no_conflict

@@ -4,7 +4,7 @@ use native.Mathlib.Omega.{arith}
 use borrow.Author.Rules.{rules}
 use borrow.Author.Tests.{not-true, not-false}
 use Rattle.kinds.proofs.ByNumber.{access_below}
-use Rattle.scan.proofs.Scanning.{scan_begin, scan_answer, scan_end, scan_few, scan_room, scan_quick, scan_named, scan_next, scan_move}
+use Rattle.scan.proofs.Scanning.{scan_begin, scan_answer, scan_none, scan_few, scan_room, scan_quick, scan_named, scan_next, scan_move}
 use Rattle.scan.proofs.Scanning.{scan_testable, scan_quick_kept, scan_kept, scan_race}
 use Rattle.scan.proofs.first_race.Goals as goal
 use Rattle.scan.proofs.first_race.Goals.{then-kind-quick+else-not-quick_passes, else-kind-quick+then-is_move, else-kind-quick+else-is_move+else-not-passes}
@@ -31,7 +31,7 @@ returns-then-not-quick_passes c =
     scan_answer _ _ _ _ _ _ c.clear.ensures c.requires _ _
     (scan_race _ _ _ _ c.loop-t.invariant (omega arith) (access_below _ plain.0) _ c.quick_passes.result
     c.if-not-quick_passes.true c.quick_passes.ensures) in
-    record { first_race = all.0; same_from = all.1.0; tables = all.1.1 }
+    record { inside = omega arith; first_race = all.0; same_from = all.1.0; tables = all.1.1 }
 
 -- A move:
 pub is_move-requires : goal.is_move-requires
@@ -56,7 +56,7 @@ returns-then-not-passes c =
     scan_answer _ _ _ _ _ _ c.clear.ensures c.requires _ _
     (scan_race _ _ _ _ c.loop-t.invariant (omega arith) (not-false _ (sym c.is_move.ensures ∙ c.if-is_move.false)) _ c.passes.result
     c.if-not-passes.true c.passes.ensures) in
-    record { first_race = all.0; same_from = all.1.0; tables = all.1.1 }
+    record { inside = omega arith; first_race = all.0; same_from = all.1.0; tables = all.1.1 }
 
 pub loop-t-preserved : goal.loop-t-preserved
 loop-t-preserved c =
@@ -78,5 +78,5 @@ loop-t-preserved c =
 
 pub returns : goal.returns
 returns c =
-    let all = scan_answer _ _ _ _ _ _ c.clear.ensures c.requires _ _ (scan_end _ _ _ _ c.loop-t.invariant (omega arith)) in
-    record { first_race = all.0; same_from = all.1.0; tables = all.1.1 }
+    let all = scan_answer _ _ _ _ _ _ c.clear.ensures c.requires _ _ (scan_none _ _ _ _ c.loop-t.invariant (omega arith)) in
+    record { inside = tt; first_race = all.0; same_from = all.1.0; tables = all.1.1 }

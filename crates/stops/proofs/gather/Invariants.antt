@@ -1,11 +1,7 @@
 -- `stops::gather` meets its contract: before each turn the stops of the first p events are collected, and the marks from p on are as they were.
 -- Assumes nothing.
-use Prim.Native.Nat.{◌≤◌, ◌-◌}
 use Rattle.stops.specs.Stops.{Collected, is_marked}
 use Rattle.stops.proofs.gather.Given as goal
 
 abbrev pub invariant-loop-p : goal.invariant-loop-p
-invariant-loop-p l = (l.p ≤ l.n) × Collected (is_marked l.initial.ws) l.p l.initial.ws l.ws l.count
-
-abbrev pub decreases-loop-p : goal.decreases-loop-p
-decreases-loop-p l = l.n - l.p
+invariant-loop-p l = Collected (is_marked l.initial.ws) l.p l.initial.ws l.ws l.count

@@ -6,10 +6,11 @@ use native.Mathlib.Omega.{arith}
 use borrow.Author.Rules.{rules}
 use lib.ListN.{length, get_or, set, length-set}
 use lib.Seq.{get_or-set_same, get_or-set_other}
+use Rattle.std.proofs.lemmas.Grind.{common_steps}
 use Rattle.trace.specs.Trace.{trace_of}
 use Rattle.trace.proofs.Tests.{either}
 use Rattle.cells.specs.Cells.{Filled, NUMBER}
-use Rattle.cells.proofs.Filling.{filled_none, filled_more}
+use Rattle.cells.proofs.Filling.{filled_more}
 use Rattle.stops.proofs.Quiet.{stop_zero, mark_is}
 use Rattle.stops.proofs.mark.Goals as goal
 
@@ -27,34 +28,23 @@ first-stored {c = c} v some f =
       same = λ i h. f.same i h ∙ get_or-set_other c NUMBER i v 0 (λ e. either h (λ low. omega arith) (λ high. omega arith));
     }
 
--- Of an empty trace there is nothing to mark.
-pub returns-then-kinds-eq0 : goal.returns-then-kinds-eq0
-returns-then-kinds-eq0 c = let e : length c.args.kinds.now ≡ 0 = omega arith in rw e (filled_none NUMBER _ _)
-
 pub loop-p-init : goal.loop-p-init
 loop-p-init c =
-    let args = c.args in
-    let stop = stop_zero (trace_of args.kinds.now args.tasks.now args.operands.now) in
-    (omega arith, search rules, c.is_access-previous.ensures, first-filled _ _ (get_or-set_same args.ws.now NUMBER 1 0 (omega arith) ∙ rw stop))
+    let trace = c.args.trace in
+    let some : 0 < length trace.kinds.now = grind (arith, common_steps) in
+    let stop = stop_zero (trace_of trace.kinds.now trace.tasks.now trace.operands.now) in
+    (c.is_access-previous.ensures, first-filled _ _ (get_or-set_same c.args.ws.now NUMBER 1 0 (omega arith) ∙ rw stop))
 
 pub loop-p-preserved : goal.loop-p-preserved
 loop-p-preserved c =
     let inv = c.loop-p.invariant in
     let e : c.loop-p.p + 1 - 1 ≡ c.loop-p.p = omega arith in (
-      omega arith,
-      search rules,
       rw e c.is_access-access.ensures,
-      filled_more inv.3 _ (rw length-set (search rules)) (mark_is _ _ _ _ _ _ _ inv.0 inv.2 c.is_access-access.ensures c.stop_at.ensures),
+      filled_more inv.1 _ (rw length-set (search rules)) (mark_is _ _ _ _ _ _ _ (omega arith) inv.0 c.is_access-access.ensures c.stop_at.ensures),
     )
 
 pub returns : goal.returns
 returns c =
-    let inv = c.loop-p.invariant in
-    let e : c.loop-p.p ≡ length c.args.kinds.now = omega arith in
-    rw (← e) (first-stored 1 inv.0 inv.3)
-
-pub bounds-ws-p : goal.bounds-ws-p
-bounds-ws-p c = omega (arith, length-set c.args.ws.now NUMBER 1)
-
-pub shape_of-ws : goal.shape_of-ws
-shape_of-ws c = c.loop-p.invariant.3.long ∙ simp length-set
+    let some : 0 < length c.args.trace.kinds.now = grind (arith, common_steps) in
+    let e : c.loop-p.p ≡ length c.args.trace.kinds.now = omega arith in
+    rw (← e) (first-stored 1 (omega arith) c.loop-p.invariant.1)

@@ -1,13 +1,8 @@
--- `told::convert` meets its contract: each case of the answer is told by its code and values, and with it comes what is demanded (`Conversions`). Assumes nothing.
-use Rattle.told.proofs.Conversions.{promised_done, promised_turned_back}
+-- `told::convert` meets its contract: its answer is told by a code and values, and with it comes what is demanded (`Conversions`). Assumes nothing.
+use Rattle.told.proofs.Conversions.{promised_told}
 use Rattle.told.proofs.convert.Goals as goal
 
-pub returns-in-Converted : goal.returns-in-Converted
-returns-in-Converted c =
-    let p = promised_done _ _ _ _ _ _ _ c.convert-conversion.ensures.outcome c.in-Converted.is in
-    record { outcome = p.0; demand1 = p.1.0; halts = p.1.1.0; verdict = p.1.1.1 }
-
-pub returns-in-Refused : goal.returns-in-Refused
-returns-in-Refused c =
-    let p = promised_turned_back _ _ _ _ _ _ _ c.convert-conversion.ensures.outcome _ c.in-Refused.is in
+pub returns : goal.returns
+returns c =
+    let p = promised_told _ _ _ _ _ c.convert-answer.ensures.outcome c.tell.ensures in
     record { outcome = p.0; demand1 = p.1.0; halts = p.1.1.0; verdict = p.1.1.1 }

@@ -1,12 +1,8 @@
 -- `output::bytes::put_rest` meets its contract: the loop puts number after number (`Rendering`). Assumes nothing.
-use Prim.Native.Nat.{◌-◌}
-use lib.ListN.{length}
+use mathlib.Core.Path.{◌≡◌}
+use lib.ListN.{drop}
 use Rattle.output.specs.Output.{rest, buffer, add}
-use Rattle.output.proofs.Rendering.{Putting, part}
 use Rattle.output.proofs.bytes.put_rest.Given as goal
 
-abbrev pub invariant-loop-i : goal.invariant-loop-i
-invariant-loop-i l = Putting (length l.initial.out) (add (buffer l.initial.out l.at) (rest (part l.cells l.from l.to))) (rest (part l.cells l.i l.to)) (buffer l.out l.place)
-
-abbrev pub decreases-loop-i : goal.decreases-loop-i
-decreases-loop-i l = l.to - l.i
+abbrev pub invariant-loop-cell : goal.invariant-loop-cell
+invariant-loop-cell l = add (buffer l.out l.place) (rest (drop l.cell-index l.cells)) ≡ add (buffer l.initial.out l.at) (rest l.cells)

@@ -6,7 +6,7 @@ use Rattle.plan_reader.proofs.Passing.{Stage}
 use Rattle.plan_reader.proofs.emission.emit.Given as goal
 
 abbrev pub invariant-loop-writer : goal.invariant-loop-writer
-invariant-loop-writer l = Stage l.text (slices l.initial.kinds l.initial.tasks l.initial.operands) l.writer l.stack (slices l.kinds l.tasks l.operands)
+invariant-loop-writer l = Stage l.text (slices l.initial.kinds l.initial.tasks l.initial.operands) l.writer l.stack l.count (slices l.kinds l.tasks l.operands)
 
 abbrev pub decreases-loop-writer : goal.decreases-loop-writer
 decreases-loop-writer l = length l.text - l.writer.at

@@ -4,7 +4,4 @@ use Rattle.text.proofs.ImpliedHalts.{Halting}
 use Rattle.text.proofs.events.halt_above.Given as goal
 
 abbrev pub invariant-loop-place : goal.invariant-loop-place
-invariant-loop-place l = Halting l.stack l.base l.depth l.from (slices l.initial.kinds l.initial.tasks l.initial.operands) (slices l.kinds l.tasks l.operands) l.place l.at
-
-abbrev pub decreases-loop-place : goal.decreases-loop-place
-decreases-loop-place l = l.place
+invariant-loop-place l = Halting l.stack.tasks l.base l.stack.depth l.from (slices l.initial.kinds l.initial.tasks l.initial.operands) (slices l.kinds l.tasks l.operands) l.place l.at

@@ -1,0 +1,2 @@
+-- A law behind the contracts.
+pub mod Filled

@@ -1,7 +1,0 @@
--- `ranks::begin` meets its contract. Assumes nothing.
-use borrow.Author.Rules.{rules}
-use Rattle.ranks.proofs.Listing.{begun}
-use Rattle.ranks.proofs.begin.Goals as goal
-
-pub returns : goal.returns
-returns c = search (rules, begun)

@@ -1,5 +1,0 @@
--- `report::reaches` meets its contract. Assumes nothing.
-use Rattle.report.proofs.reaches.Goals as goal
-
-pub returns : goal.returns
-returns c = cc

@@ -1,9 +1,0 @@
--- `text::events::halt_operand` meets its contract: the task below, where there is one (`ImpliedHalts`). Assumes nothing.
-use Rattle.text.proofs.ImpliedHalts.{resumed_none, resumed_below}
-use Rattle.text.proofs.events.halt_operand.Goals as goal
-
-pub returns-then-place-eq0 : goal.returns-then-place-eq0
-returns-then-place-eq0 c = search resumed_none
-
-pub returns : goal.returns
-returns c = search resumed_below

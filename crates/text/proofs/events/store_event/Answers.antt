@@ -1,8 +1,0 @@
--- `text::events::store_event` meets its contract: three stores. Assumes nothing.
-use mathlib.Core.Path.{refl}
-use Rattle.trace.specs.Slices.{store}
-use Rattle.text.proofs.events.store_event.Goals as goal
-
-pub returns : goal.returns
-unfolding store
-returns c = refl
