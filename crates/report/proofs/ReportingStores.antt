@@ -2,26 +2,25 @@
 use Prim.Native.Nat.{ℕ, suc, ◌+◌, ◌-◌, ◌<◌, ◌≤◌}
 use mathlib.Core.Path.{◌≡◌, refl, sym, ap, ap₂, ◌∙◌}
 use mathlib.Core.Bool.{Bool, true, false}
-use mathlib.Core.List.{List, [], ◌∷◌, ◌++◌, append_assoc}
+use mathlib.Core.List.{List, [], ◌∷◌, ◌++◌}
 use native.Mathlib.Omega.{arith}
 use native.Mathlib.Numerals.{add-one}
 use native.Mathlib.Nat.{add-zero, zero-add}
-use lib.ListN.{length, set, take, drop, length-set, length-append}
-use lib.Seq.{sets, sets-eq}
-use borrow.Rule.Slice.PartMut.{put_mid}
-use Rattle.std.proofs.lemmas.Slice.{put_mid-paste}
-use Rattle.std.proofs.lemmas.List.Edits.{paste_all}
+use lib.ListN.{length, get_or, set, take, length-set, length-append}
+use lib.Seq.{sets, take-suc, length-take-le}
 use Rattle.trace.specs.Orders.{count_up, positions, select, chosen}
 use Rattle.trace.specs.Outcome.{other?, schedule}
 use Rattle.trace.proofs.Lists.{select_append, count_up_append, select_count_up_same, select_positions_failed}
 use Rattle.trace.proofs.Lists.{chosen_none, chosen_passed, chosen_failed, sets_append}
 use Rattle.report.specs.Reports.{Parted}
 
--- What is copied to k cells from `at` on, as single stores.
-pub copied : (at k : ℕ) (to part from : List ℕ) → part ≡ from → length from ≡ k → at + k ≤ length to → put_mid at k to part ≡ sets to at from
-copied at k to part from same long room =
-    put_mid-paste at k to part from k same refl (sym long)
-    ∙ (paste_all to at from k (sym long) ∙ sym (rw long at (sets-eq from to at (omega arith) ∙ append_assoc (take at to) from (drop (at + length from) to))))
+-- One cell more is copied.
+pub copied_more :
+    (from to out : List ℕ) (at i : ℕ) → i < length from → out ≡ sets to at (take i from)
+    → set out (at + i) (get_or from i 0) ≡ sets to at (take (i + 1) from)
+copied_more from to out at i h done =
+    let long = length-take-le i from (omega arith) in
+    rw (done, add-one i, take-suc from i 0 h, sets_append (take i from) (get_or from i 0 ∷ []) to at, long)
 
 -- ---- positions that pass a test
 

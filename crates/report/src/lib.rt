@@ -3,7 +3,8 @@
 // The two buffers for them are no struct: each is stored to and copied from by itself.
 #![tactic(auto)]
 
-ghost use Rattle.std.specs.Prelude.{◌≡◌, true, ◌+◌, ◌-◌, ◌≤◌, ◌<◌, length, get_or};
+ghost use Rattle.std.specs.Prelude.{◌≡◌, true, ◌+◌, ◌-◌, ◌≤◌, ◌<◌, length, get_or, take};
+ghost use Rattle.std.proofs.lemmas.List.Edits.{sets};
 ghost use Rattle.trace.specs.Trace.{is_access, MAX_EVENTS};
 ghost use Rattle.trace.specs.Orders.{chosen};
 ghost use Rattle.cells.specs.Cells.{NUMBER};
@@ -101,6 +102,16 @@ fn partition(ws: &[u16], first: &mut [u16], second: &mut [u16], s: usize, t: usi
     partition_range(ws, first, second, s + 1, t, at, s - at)
 }
 
+// Copies the first n cells to the cells from `at` on. A loop, since `copy_from_slice` is a call of memcpy, which the archive for C would then need.
+fn copy(from: &[u16], to: &mut [u16], at: usize, n: usize)
+    requires { (n ≤ length from.now) × (at + n ≤ length to.old) }
+    ensures { to.new ≡ sets to.old at (take n from.now) }
+{
+    for i in 0..n {
+        to[at + i] = from[i];
+    }
+}
+
 // The first order: D, then s and t, then the others. These come by way of `second`. Says where s is.
 fn arrange(ws: &[u16], first: &mut [u16], second: &mut [u16], s: usize, t: usize) -> usize
     requires s_lt_t { (s < t) × (NUMBER + t < length ws.now) × (t < MAX_EVENTS) }
@@ -110,7 +121,7 @@ fn arrange(ws: &[u16], first: &mut [u16], second: &mut [u16], s: usize, t: usize
     let at = partition(ws, first, second, s, t);
     first[at] = s as u16;
     first[at + 1] = t as u16;
-    first[at + 2..t + 1].copy_from_slice(&second[..t - 1 - at]);
+    copy(second, first, at + 2, t - 1 - at);
     at
 }
 
@@ -122,7 +133,7 @@ fn orders(ws: &[u16], first: &mut [u16], second: &mut [u16], s: usize, t: usize)
     ensures second_after { second.new ≡ order_in ws.now s t t s second.old }
 {
     let at = arrange(ws, first, second, s, t);
-    second[..t + 1].copy_from_slice(&first[..t + 1]);
+    copy(first, second, 0, t + 1);
     second[at] = t as u16;
     second[at + 1] = s as u16;
 }

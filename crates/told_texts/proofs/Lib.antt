@@ -1,4 +1,5 @@
 -- The laws behind the contracts.
 pub mod Seen
+pub mod Copies
 pub mod Translations
 pub mod Plans

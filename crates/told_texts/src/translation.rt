@@ -16,7 +16,7 @@ pub fn is_short(kinds: usize, tasks: usize, operands: usize) -> bool
     kinds < MAX_TEXT_EVENTS || tasks < MAX_TEXT_EVENTS || operands < MAX_TEXT_EVENTS
 }
 
-// Copies the first `count` events.
+// Copies the first `count` events. A loop, since `copy_from_slice` is a call of memcpy, which the archive for C would then need.
 fn copy_events(from: Trace, kinds: &mut [u8], tasks: &mut [u16], operands: &mut [u16], count: usize)
     requires room { Room (slices from.kinds.now from.tasks.now from.operands.now) count }
     requires room_2 { Room (slices kinds.old tasks.old operands.old) count }
@@ -24,9 +24,11 @@ fn copy_events(from: Trace, kinds: &mut [u8], tasks: &mut [u16], operands: &mut 
         ≡ copied count (slices from.entry.kinds.now from.entry.tasks.now from.entry.operands.now)
         (slices kinds.old tasks.old operands.old) }
 {
-    kinds[..count].copy_from_slice(&from.kinds[..count]);
-    tasks[..count].copy_from_slice(&from.tasks[..count]);
-    operands[..count].copy_from_slice(&from.operands[..count]);
+    for i in 0..count {
+        kinds[i] = from.kinds[i];
+        tasks[i] = from.tasks[i];
+        operands[i] = from.operands[i];
+    }
 }
 
 // The text goes to spare slices first, since `text::translate` takes them of one size, and the lent ones may have more cells.
