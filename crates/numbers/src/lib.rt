@@ -29,8 +29,13 @@ fn extend(value: u16, byte: u8, greatest: u16) -> Option<u16>
         return None;
     }
     let last = read_digit(byte)?;
-    let next = value.checked_mul(10)?.checked_add(last)?;
-    if next <= greatest { Some(next) } else { None }
+    // In 32 bits nothing overflows, and one test decides: in 16 there are three for each digit.
+    let next = u32::from(value) * 10 + u32::from(last);
+    if next <= u32::from(greatest) {
+        Some(next as u16)
+    } else {
+        None
+    }
 }
 
 // The number from `start` on, as long as it goes: it stops before the digit that would make it greater than `greatest`.

@@ -9,21 +9,8 @@ returns-then-value-eq0 c = search extended_zero
 pub returns-in_err-last : goal.returns-in_err-last
 returns-in_err-last c = rw c.from_residual.ensures (extended_other _ _ _ c.if-value-eq0.false c.in_err-last.ensures)
 
-pub returns-in_err-checked_mul : goal.returns-in_err-checked_mul
-returns-in_err-checked_mul c =
-    rw c.from_residual-in_err-checked_mul.ensures
-    (extended_large _ _ _ c.if-value-eq0.false _ c.in_ok-last.ensures (omega (arith, c.in_err-checked_mul.ensures)))
+pub returns-then-next-from : goal.returns-then-next-from
+returns-then-next-from c = extended_more _ _ _ c.if-value-eq0.false _ _ c.in_ok-last.ensures (omega arith) (omega arith)
 
-pub returns-in_err-next : goal.returns-in_err-next
-returns-in_err-next c =
-    rw c.from_residual-in_err-next.ensures
-    (extended_large _ _ _ c.if-value-eq0.false _ c.in_ok-last.ensures
-    (omega (arith, c.in_ok-checked_mul.ensures, c.in_err-next.ensures)))
-
-pub returns-then-next-greatest : goal.returns-then-next-greatest
-returns-then-next-greatest c =
-    extended_more _ _ _ c.if-value-eq0.false _ _ c.in_ok-last.ensures
-    (omega arith) c.if-next-greatest.true
-
-pub returns-else-next-greatest : goal.returns-else-next-greatest
-returns-else-next-greatest c = extended_large _ _ _ c.if-value-eq0.false _ c.in_ok-last.ensures (omega arith)
+pub returns-else-next-from : goal.returns-else-next-from
+returns-else-next-from c = extended_large _ _ _ c.if-value-eq0.false _ c.in_ok-last.ensures (omega arith)
