@@ -1,12 +1,13 @@
 // One call of the reader in dirty slices of three lengths: its answer, every cell that it was lent and some behind them are held to what the slow reader says.
 ghost use Rattle.std.specs.Prelude.{◌≤◌};
 
+use crate::rows::Row;
 use crate::slow_reader::read;
 use crate::slow_trace::SlowTrace;
 use crate::want::{Answer, Cells, events_of, lent, wanted};
 use crate::wrong::{Part, Wrong};
 use plan_reader::translate;
-use trace::{Event, Refusal, Row};
+use trace::{Event, Refusal};
 
 // The room of the slices, if they have any, a salt for the dirt, and the wrong rule that the slow reader goes by, if any.
 #[derive(Clone, Copy)]
@@ -187,11 +188,13 @@ impl Tally {
     }
 
     fn refused(&mut self, refusal: Refusal) {
-        if refusal.number == Row::NoPlan.number() {
+        if refusal.number == Row::NoPlan as usize {
             self.stray = self.stray.wrapping_add(1);
-        } else if refusal.number == Row::DeepPlan.number() {
+        }
+        if refusal.number == Row::DeepPlan as usize {
             self.deep = self.deep.wrapping_add(1);
-        } else {
+        }
+        if refusal.number == Row::LargePlan as usize {
             self.large = self.large.wrapping_add(1);
         }
     }

@@ -2,10 +2,11 @@
 // told.
 use crate::compare::{Call, Tally, compare};
 use crate::recipes::{field, lay, line_of};
+use crate::rows::Row;
 use crate::slow_trace::SlowTrace;
 use crate::texts::Text;
 use crate::want::{Answer, Cells};
-use trace::{Refusal, Row};
+use trace::Refusal;
 
 // ---- answers
 
@@ -30,7 +31,7 @@ fn room_of(i: usize) -> Option<Cells> {
 // Too few cells refuse what would be accepted.
 fn told_in(told: Answer, room: usize) -> Answer {
     if 1 < room && told.is_ok() {
-        return Err(Row::LargePlan.into());
+        return Err(Row::LargePlan.at(0));
     }
     told
 }

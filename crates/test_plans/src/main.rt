@@ -9,6 +9,7 @@ mod letters;
 mod meaning;
 mod plants;
 mod recipes;
+mod rows;
 mod slow_reader;
 mod slow_trace;
 mod spans;

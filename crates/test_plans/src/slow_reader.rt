@@ -1,8 +1,9 @@
 // The slow reader's answer: document 02's K4 taken at its word, byte by byte, by what may come next and a stack of the open levels. It shares no code with the
-// fast reader.
+// fast reader, rows and kinds included: of crate `trace` it has the types alone.
 use crate::letters::{extend, is_leaf};
+use crate::rows::Row;
 use crate::wrong::Wrong;
-use trace::{Refusal, Row};
+use trace::Refusal;
 
 // What may come next: a plan, the bracket behind an operator, the first digit of a location, one more, or what stands behind a plan.
 #[derive(Clone, Copy, PartialEq, Eq)]

@@ -3,7 +3,8 @@
 use crate::letters::{byte_at, extend};
 use crate::spans::{around, comma_of};
 use crate::wrong::Wrong;
-use trace::{Event, FORK, HALT, JOIN, READ, SUM, WRITE};
+use test_slow::events::Kind;
+use trace::Event;
 
 // The places of a P's letter and of its comma.
 #[derive(Clone, Copy)]
@@ -31,9 +32,9 @@ pub struct SlowTrace {
     count: usize,
 }
 
-fn make_event(kind: u8, task: usize, operand: usize) -> Event {
+fn make_event(kind: Kind, task: usize, operand: usize) -> Event {
     Event {
-        kind,
+        kind: kind as u8,
         task: (task % 65536) as u16,
         operand: (operand % 65536) as u16,
     }
@@ -68,7 +69,7 @@ impl SlowTrace {
             comma: 0,
         };
         let placed = Placed {
-            event: make_event(0, 0, 0),
+            event: make_event(Kind::Read, 0, 0),
             place: 0,
         };
         SlowTrace {
@@ -121,13 +122,13 @@ impl SlowTrace {
 
     // ---- events
 
-    fn access(&self, text: &[u8], kind: u8, at: usize, plant: Option<Wrong>) -> Event {
+    fn access(&self, text: &[u8], kind: Kind, at: usize, plant: Option<Wrong>) -> Event {
         make_event(kind, self.actor(at, plant), location_of(text, at))
     }
 
     fn fork(&self, at: usize, plant: Option<Wrong>) -> Event {
         let child = self.actor(at.wrapping_add(1), plant);
-        make_event(FORK, self.actor(at, plant), child)
+        make_event(Kind::Fork, self.actor(at, plant), child)
     }
 
     // The halt at the comma and the join at the bracket of a P, if it is one's. "A halt's operand now names the task that resumes".
@@ -140,19 +141,19 @@ impl SlowTrace {
         let parent = self.actor(at, plant);
         if byte_at(text, at) == b',' {
             let spoiled = plant == Some(Wrong::Zero);
-            return Some(make_event(HALT, child, if spoiled { 0 } else { parent }));
+            return Some(make_event(Kind::Halt, child, if spoiled { 0 } else { parent }));
         }
         if plant == Some(Wrong::NoJoin) {
             return None;
         }
-        Some(make_event(JOIN, parent, child))
+        Some(make_event(Kind::Join, parent, child))
     }
 
     fn event_of(&self, text: &[u8], at: usize, plant: Option<Wrong>) -> Option<Event> {
         match byte_at(text, at) {
-            b'r' => Some(self.access(text, READ, at, plant)),
-            b'w' => Some(self.access(text, WRITE, at, plant)),
-            b's' => Some(self.access(text, SUM, at, plant)),
+            b'r' => Some(self.access(text, Kind::Read, at, plant)),
+            b'w' => Some(self.access(text, Kind::Write, at, plant)),
+            b's' => Some(self.access(text, Kind::Sum, at, plant)),
             b'P' => Some(self.fork(at, plant)),
             b',' | b')' => self.mark(text, at, plant),
             _ => None,

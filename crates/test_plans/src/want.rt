@@ -1,8 +1,9 @@
 // What must come of a text in slices of some lengths.
+use crate::rows::Row;
 use crate::slow_reader::Reading;
 use crate::slow_trace::SlowTrace;
 use crate::wrong::Wrong;
-use trace::{Refusal, Row};
+use trace::Refusal;
 
 // The number of events, or why the text is turned back.
 pub type Answer = Result<usize, Refusal>;
@@ -94,7 +95,7 @@ pub fn wanted(
     let early = large && plant == Some(Wrong::Early);
     match reading.refused {
         Some(refusal) if !early => refused(refusal, plant),
-        _ if large => refused(Row::LargePlan.into(), plant),
+        _ if large => refused(Row::LargePlan.at(0), plant),
         _ => Ok(limit(trace.lay(text, plant), plant, Wrong::Count)),
     }
 }
