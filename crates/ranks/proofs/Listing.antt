@@ -1,20 +1,20 @@
 -- One event more: the line by the law of one event, the list and the stacks of segments by the laws of a move. Assumes nothing.
 use Prim.Native.Nat.{ℕ, suc, ◌+◌, ◌<◌, ◌≤◌}
 use mathlib.Core.Path.{◌≡◌, refl, sym, ap, subst, ◌∙◌}
-use mathlib.Core.Bool.{Bool, true, false, cond, not}
+use mathlib.Core.Bool.{true, false, cond}
 use mathlib.Core.List.{List, [], ◌∷◌, tail}
 use mathlib.Core.Logic.{inl, inr}
 use native.Mathlib.Omega.{arith}
 use native.Mathlib.Numerals.{add-one}
 use lib.Dec.{eqb}
-use lib.ListN.{length, get_or, set, length-set}
+use lib.ListN.{length, set, length-set}
 use lib.Seq.{get_or-set_other}
-use borrow.Author.Tests.{eqb-true, not-false}
+use borrow.Author.Tests.{eqb-true}
 use Rattle.trace.specs.Trace.{Trace, trace_of, FORK, JOIN, HALT, is_kind, is_access, TASKS, WORKSPACE_CELLS}
 use Rattle.trace.specs.Line.{passes, halt_operand, line_after}
 use Rattle.trace.proofs.Tests.{by_test, either}
 use Rattle.trace.proofs.EventKinds.{rest_is_halt}
-use Rattle.trace.proofs.Lines.{line_more, named, graph_all, graph_broken}
+use Rattle.trace.proofs.Lines.{line_more, graph_all, graph_broken}
 use Rattle.trace.proofs.TwoStacks.{line_of_law}
 use Rattle.cells.specs.Cells.{SameBeyond, number_in}
 use Rattle.cells.proofs.Rests.{rest_refl, rest_eq, rest_trans, rest_set}
@@ -255,48 +255,6 @@ module _ (tr : Trace) (n : ℕ) (c : List ℕ) (line : Line) (g : ℕ) (t : List
             broken = λ row z. absurd (cc);
           })
 
--- ---- as `Front::admit` has it
-
-not-true : (b : Bool) → not b ≡ true → b ≡ false
-not-true true e = sym e
-not-true false e = refl
-
-module _ (trace : slices.Trace) (n : ℕ) (c : List ℕ) (line : Line) (g : ℕ) (t : ListAt (held_trace trace) n c line g)
-    (event : code.Event) (is : event ≡ event_at trace n) (result : Result (Unit {0}) Row) (d : List ℕ)
-    (e : rowed (after_in line (rule_of event.kind)) result d ≡ event_in c line event.kind event.task event.operand) where
-  abbrev tr : Trace
-  tr = held_trace trace
-
-  told : rowed (after_in line (rule_of (tr.kind n))) result d ≡ event_in c line (tr.kind n) (tr.task n) (tr.operand n)
-  unfolding trace_of
-  told = rw is at e
-
-  same_kind : event.kind ≡ tr.kind n
-  unfolding trace_of
-  same_kind = rw is
-
-  pub admit_broken : (row : Row) → result ≡ Err row → AdmitSays tr n c d line g (Err row)
-  admit_broken row some = list_broken tr n c line g t result d told row some
-
-  module _ (none : result ≡ Ok tt) where
-    pub admit_named : is_kind event.kind ≡ true
-    admit_named = rw same_kind (list_named tr n c line g t result d told none)
-
-    module _ (b : Bool) (moves : b ≡ not (is_access event.kind)) where
-      moved : not (is_access (tr.kind n)) ≡ b
-      moved = ap (λ (k : ℕ). not (is_access k)) (sym same_kind) ∙ sym moves
-
-      pub admit_access : b ≡ false → AdmitSays tr n c d line g (Ok tt)
-      admit_access a = list_access tr n c line g t result d told none (not-false _ (moved ∙ a))
-
-      pub admit_openable : b ≡ true → Openable d line event.kind g
-      admit_openable a = rw same_kind (list_openable tr n c line g t result d told none (not-true _ (moved ∙ a)))
-
-      pub admit_move : b ≡ true → (x : List ℕ) → x ≡ opened_in d line event.kind g → AdmitSays tr n c x line g (Ok tt)
-      admit_move a x opened =
-          list_move tr n c line g t result d told none (not-true _ (moved ∙ a)) x
-          (opened ∙ ap (λ (k : ℕ). opened_in d line k g) same_kind)
-
 -- ---- the start
 
 pub begun : {entry d exit : List ℕ} {line : Line} → WORKSPACE_CELLS ≤ length entry → (line ≡ depths 1 0) × (d ≡ started_in entry) →
@@ -402,20 +360,43 @@ module _ {tr : Trace} {n : ℕ} {before entry c : List ℕ} {line : Line} {g k c
           list = rw broken.0 at.list_at.list;
         }
 
--- As the loop has it.
-module _ (kinds tasks operands : List ℕ) {c exit : List ℕ} {line : Line} {g i : ℕ} {result : Result (Unit {0}) Row}
-    (says : AdmitSays (trace_of kinds tasks operands) i c exit line g result) (none : result ≡ Ok tt) where
-  pub taken_movable : Movable line (get_or kinds i 0)
-  unfolding trace_of
-  taken_movable = (says.kept none).0
+-- As the loop has it: event i by value, what `Line::admit` answers of it and leaves in d, and then the cells and the front after it.
+module _ (trace : slices.Trace) (i : ℕ) (c : List ℕ) (line : Line) (g : ℕ) (t : ListAt (held_trace trace) i c line g)
+    (event : code.Event) (is : event ≡ event_at trace i) (result : Result (Unit {0}) Row) (d : List ℕ)
+    (e : rowed (after_in line (rule_of event.kind)) result d ≡ event_in c line event.kind event.task event.operand) where
+  abbrev tr : Trace
+  tr = held_trace trace
 
-  pub taken_named : is_kind (get_or kinds i 0) ≡ true
+  told : rowed (after_in line (rule_of (tr.kind i))) result d ≡ event_in c line (tr.kind i) (tr.task i) (tr.operand i)
   unfolding trace_of
-  taken_named = named halt_operand (trace_of kinds tasks operands) (suc i) _ (line_of_law halt_operand _ (says.kept none).1.at.run) i (omega arith)
+  told = rw is at e
 
-  pub taken_turn : {n k count : ℕ} {before entry : List ℕ} → SameBeyond before entry → StopsIn (trace_of kinds tasks operands) n before count →
-      Listing (trace_of kinds tasks operands) n entry c line g k → AtStop (trace_of kinds tasks operands) n c line g k i → (line' : Line) (g' : ℕ) →
-      line' ≡ after_in line (rule_of (get_or kinds i 0)) → g' ≡ cond (is_access (get_or kinds i 0)) g (suc g) →
-      Listing (trace_of kinds tasks operands) n entry exit line' g' (k + 1)
+  same_kind : event.kind ≡ tr.kind i
   unfolding trace_of
-  taken_turn first stops w at line' g' p q = listing_turn first stops w at says none line' g' p q
+  same_kind = rw is
+
+  pub admit_broken : (row : Row) → result ≡ Err row → AdmitSays tr i c d line g (Err row)
+  admit_broken row some = list_broken tr i c line g t result d told row some
+
+  module _ (none : result ≡ Ok tt) where
+    pub admit_movable : Movable line event.kind
+    admit_movable = rw same_kind (can_move tr i c line g t result d told none)
+
+    pub admit_named : is_kind event.kind ≡ true
+    admit_named = rw same_kind (list_named tr i c line g t result d told none)
+
+    pub admit_openable : is_access event.kind ≡ false → Openable d line event.kind g
+    admit_openable a = rw same_kind (list_openable tr i c line g t result d told none (rw same_kind at a))
+
+    admitted : (x : List ℕ) → x ≡ cond (is_access event.kind) d (opened_in d line event.kind g) → AdmitSays tr i c x line g (Ok tt)
+    admitted x after =
+        by_test (is_access (tr.kind i))
+        (λ a. subst (λ (y : List ℕ). AdmitSays tr i c y line g (Ok tt)) (sym (rw (same_kind, a) at after)) (list_access tr i c line g t result d told none a))
+        (λ a. list_move tr i c line g t result d told none a x (rw (same_kind, a) at after))
+
+    pub admit_turn : {n k count : ℕ} {before entry : List ℕ} → SameBeyond before entry → StopsIn tr n before count →
+        Listing tr n entry c line g k → AtStop tr n c line g k i → (x : List ℕ) →
+        x ≡ cond (is_access event.kind) d (opened_in d line event.kind g) → (line' : Line) (g' : ℕ) →
+        line' ≡ after_in line (rule_of event.kind) → g' ≡ cond (is_access event.kind) g (suc g) → Listing tr n entry x line' g' (k + 1)
+    admit_turn first stops w at x after line' g' p q =
+        listing_turn first stops w at (admitted x after) refl line' g' (rw same_kind at p) (rw same_kind at q)

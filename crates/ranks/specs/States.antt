@@ -1,5 +1,5 @@
--- What the cells mean between the functions, and what the crate promises: the events of the graph, the row that the next one meets, and for each event a
--- number that says which later ones it reaches. Assumes nothing.
+-- What the cells mean between the functions and between the turns of a loop, and what the crate promises: the events of the graph, the row that the next one
+-- meets, and for each event a number that says which later ones it reaches. Assumes nothing.
 use Rattle.std.specs.Prelude.{ℕ, suc, ◌+◌, ◌<◌, ◌≤◌, ◌≡◌, true, cond, List, [], length, get_or, Option, None, Some, Result, Ok, Err}
 use Rattle.trace.specs.Trace.{Trace, trace_of, is_kind, is_access, WORKSPACE_CELLS}
 use Rattle.trace.specs.Line.{halt_operand}

@@ -2,9 +2,9 @@
 // larger. The numbers are the places of the segments in their second order (crate `segments`), which is kept as a linked list while the rules run.
 #![tactic(auto)]
 
-ghost use Rattle.std.specs.Prelude.{◌≡◌, true, cond, ◌+◌, ◌≤◌, ◌<◌, suc, length, get_or};
+ghost use Rattle.std.specs.Prelude.{◌≡◌, true, false, cond, ◌+◌, ◌≤◌, ◌<◌, suc, length, get_or};
 ghost use Rattle.trace.specs.Trace.{is_kind, is_access, WORKSPACE_CELLS};
-ghost use Rattle.trace.specs.Held.{HasEvent, held_trace};
+ghost use Rattle.trace.specs.Held.{held_trace};
 ghost use Rattle.trace.proofs.Sizes.{SizedTrace};
 ghost use Rattle.segments.specs.Segments.{moves};
 ghost use Rattle.segments.proofs.SegmentCells.{link_in, rank_in};
@@ -13,7 +13,7 @@ ghost use Rattle.line.specs.Rules.{rule_of};
 ghost use Rattle.line.specs.Steps.{after_in, Movable};
 ghost use Rattle.ranks.specs.Lists.{NEXT, SEGMENTS, source_in, own_in, Readable, pushed_in, opened_in, Openable, Listed};
 ghost use Rattle.stops.specs.Stops.{StopsIn};
-ghost use Rattle.ranks.specs.States.{SomeStops, Leading, Begun, ListAt, AdmitSays, ListSays};
+ghost use Rattle.ranks.specs.States.{SomeStops, Leading, Begun, ListSays};
 ghost use Rattle.ranks.specs.States.{Named, kinds_only, own_number, Spread, SegmentsIn, RankSays};
 
 use line::Line;
@@ -136,29 +136,20 @@ impl Front {
         link(ws, m, self.segment + 1);
     }
 
-    // Event i: the row that it meets, or else the list with its segment's end.
-    fn admit(self, trace: Trace, ws: &mut [u16], i: usize) -> Result<(), Row>
-        requires has_event { HasEvent trace i }
-        requires list_at { ListAt (held_trace trace) i ws.old self.line self.segment }
-        ensures { AdmitSays (held_trace trace.entry) i ws.old ws.new self.line self.segment result }
-    {
-        let event = trace.event(i);
-        self.line.admit(ws, event)?;
-        if kinds::is_move(event.kind) {
-            self.open_next(ws, event.kind);
-        }
-        Ok(())
-    }
-
-    // After an event of this kind that met no row.
-    fn after(self, kind: u8) -> Self
+    // The front after an event of this kind that met no row. A move ends the open segment, and the next one is put in the list.
+    fn after(self, ws: &mut [u16], kind: u8) -> Self
         requires movable { Movable self.line kind }
         requires named { (self.segment < SEGMENTS) × (is_kind kind ≡ true) }
-        ensures { result ≡ record {
+        requires openable { is_access kind ≡ false → Openable ws.old self.line kind self.segment }
+        ensures cells_after { ws.new ≡ cond (is_access kind) ws.old (opened_in ws.old self.line kind self.segment) }
+        ensures front_after { result ≡ record {
           line = after_in self.line (rule_of kind);
           segment = cond (is_access kind) self.segment (suc self.segment);
         } }
     {
+        if kinds::is_move(kind) {
+            self.open_next(ws, kind);
+        }
         Front {
             line: self.line.after(kind),
             segment: open_after(kind, self.segment),
@@ -167,6 +158,8 @@ impl Front {
 }
 
 // The stops in position order, up to the first event that breaks a rule. The events between them are accesses that keep the rules where the stops do.
+// `Line::admit` is called in the loop itself: by way of a method that hands its answer on, the compiled loop tests that twice at each stop, and the ordering
+// call takes up to a twentieth longer.
 fn list_segments(trace: Trace, ws: &mut [u16], count: usize) -> Kept
     requires sized { SizedTrace trace ws.old }
     requires stops_in { StopsIn (held_trace trace) (length trace.kinds.now) ws.old count }
@@ -176,13 +169,14 @@ fn list_segments(trace: Trace, ws: &mut [u16], count: usize) -> Kept
     let mut front = Front::start(ws);
     for k in 0..count {
         let i = stops::position(ws, k);
-        if let Err(row) = front.admit(trace, ws, i) {
+        let event = trace.event(i);
+        if let Err(row) = front.line.admit(ws, event) {
             return Kept {
                 events: i,
                 broken: Some(row),
             };
         }
-        front = front.after(trace.kinds[i]);
+        front = front.after(ws, event.kind);
     }
     Kept {
         events: trace.kinds.len(),
