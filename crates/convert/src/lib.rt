@@ -15,8 +15,8 @@ use line::Line;
 use sizes::WORKSPACE_CELLS;
 use trace::{Event, HALT, Refusal, Row};
 
-// `Line::admit`, called in two places: where an event is known to be a halt, the compiler need not ask for its kind again. In one place it costs the conversion an
-// eighth of its time more.
+// `Line::admit`, called in two places: where an event is known to be a halt, the compiler need not ask for its kind again. In one place the conversion takes an
+// eighth longer, where it is compiled by itself.
 fn admit(line: Line, ws: &mut [u16], event: Event) -> Result<(), Row>
     requires { Sound ws.old line }
     ensures { rowed (after_in line (rule_of event.kind)) result ws.new ≡ event_in ws.old line event.kind event.task event.operand }

@@ -102,7 +102,8 @@ fn partition(ws: &[u16], first: &mut [u16], second: &mut [u16], s: usize, t: usi
     partition_range(ws, first, second, s + 1, t, at, s - at)
 }
 
-// Copies the first n cells to the cells from `at` on. A loop, since `copy_from_slice` is a call of memcpy, which the archive for C would then need.
+// Copies the first n cells to the cells from `at` on. A loop: where the length is no constant, `copy_from_slice` is a call of memcpy, which the archive for C
+// would then need.
 fn copy(from: &[u16], to: &mut [u16], at: usize, n: usize)
     requires { (n ≤ length from.now) × (at + n ≤ length to.old) }
     ensures { to.new ≡ sets to.old at (take n from.now) }

@@ -16,7 +16,7 @@ pub fn is_short(kinds: usize, tasks: usize, operands: usize) -> bool
     kinds < MAX_TEXT_EVENTS || tasks < MAX_TEXT_EVENTS || operands < MAX_TEXT_EVENTS
 }
 
-// Copies the first `count` events. A loop, since `copy_from_slice` is a call of memcpy, which the archive for C would then need.
+// Copies the first `count` events. A loop: where the length is no constant, `copy_from_slice` is a call of memcpy, which the archive for C would then need.
 fn copy_events(from: Trace, kinds: &mut [u8], tasks: &mut [u16], operands: &mut [u16], count: usize)
     requires room { Room (slices from.kinds.now from.tasks.now from.operands.now) count }
     requires room_2 { Room (slices kinds.old tasks.old operands.old) count }
